@@ -182,14 +182,14 @@ static void take_plan(struct ride *ride, struct pair *files, struct fitrec_plan 
 }
 
 static struct fitrec_sample any_sample(uint32_t time, uint32_t fields, uint32_t *distance) {
-    struct fitrec_sample made = FITREC_NO_VALUES(time);
+    struct fitrec_sample made = {.time = time};
     *distance += chance(900);
-    if (fields & 1) made.heart_rate = (uint8_t)chance(200);
-    if (fields & 2) made.distance = *distance;
-    if (fields & 4) made.lat = (int32_t)chance(1u << 30), made.lon = (int32_t)chance(1u << 30);
-    if (fields & 8) made.power = (uint16_t)chance(900);
-    if (fields & 16) made.speed = (uint16_t)chance(9000);
-    if (fields & 32) made.temperature = (int8_t)chance(30);
+    if (fields & 1) made.has |= FITREC_HAS_HEART_RATE, made.heart_rate = (uint8_t)chance(200);
+    if (fields & 2) made.has |= FITREC_HAS_DISTANCE, made.distance = *distance;
+    if (fields & 4) made.has |= FITREC_HAS_POSITION, made.lat = (int32_t)chance(1u << 30), made.lon = (int32_t)chance(1u << 30);
+    if (fields & 8) made.has |= FITREC_HAS_POWER, made.power = (uint16_t)chance(900);
+    if (fields & 16) made.has |= FITREC_HAS_SPEED, made.speed = (uint16_t)chance(9000);
+    if (fields & 32) made.has |= FITREC_HAS_TEMPERATURE, made.temperature = (int8_t)chance(30);
     return made;
 }
 
@@ -210,7 +210,7 @@ static void record(struct ride *ride, uint32_t fields, int commits, int samples)
     memset(&recorder, 0, sizeof recorder);
     memset(&files, 0, sizeof files);
     ride->calls = ride->commits = 0;
-    if (fitrec_start(&recorder, time, chance(1000), (uint8_t)chance(3), &plan))
+    if (fitrec_start(&recorder, 0, time, chance(1000), (uint8_t)chance(3), &plan))
         fail("a start was refused");
     take_plan(ride, &files, &plan);
     note_commit(ride, &files);

@@ -199,22 +199,22 @@ static void check_guards(void) {
 }
 
 static void set_value(struct fitrec_sample *sample, const char *key, long long value) {
-    if (!strcmp(key, "lat")) sample->lat = (int32_t)value;
-    else if (!strcmp(key, "long")) sample->lon = (int32_t)value;
-    else if (!strcmp(key, "alt")) sample->altitude = (uint16_t)value;
-    else if (!strcmp(key, "hr")) sample->heart_rate = (uint8_t)value;
-    else if (!strcmp(key, "cad")) sample->cadence = (uint8_t)value;
-    else if (!strcmp(key, "dist")) sample->distance = (uint32_t)value;
-    else if (!strcmp(key, "speed")) sample->speed = (uint16_t)value;
-    else if (!strcmp(key, "power")) sample->power = (uint16_t)value;
-    else if (!strcmp(key, "temp")) sample->temperature = (int8_t)value;
-    else if (!strcmp(key, "espeed")) sample->enhanced_speed = (uint32_t)value;
-    else if (!strcmp(key, "ealt")) sample->enhanced_altitude = (uint32_t)value;
+    if (!strcmp(key, "lat")) sample->lat = (int32_t)value, sample->has |= FITREC_HAS_LAT;
+    else if (!strcmp(key, "long")) sample->lon = (int32_t)value, sample->has |= FITREC_HAS_LON;
+    else if (!strcmp(key, "alt")) sample->altitude = (uint16_t)value, sample->has |= FITREC_HAS_ALTITUDE;
+    else if (!strcmp(key, "hr")) sample->heart_rate = (uint8_t)value, sample->has |= FITREC_HAS_HEART_RATE;
+    else if (!strcmp(key, "cad")) sample->cadence = (uint8_t)value, sample->has |= FITREC_HAS_CADENCE;
+    else if (!strcmp(key, "dist")) sample->distance = (uint32_t)value, sample->has |= FITREC_HAS_DISTANCE;
+    else if (!strcmp(key, "speed")) sample->speed = (uint16_t)value, sample->has |= FITREC_HAS_SPEED;
+    else if (!strcmp(key, "power")) sample->power = (uint16_t)value, sample->has |= FITREC_HAS_POWER;
+    else if (!strcmp(key, "temp")) sample->temperature = (int8_t)value, sample->has |= FITREC_HAS_TEMPERATURE;
+    else if (!strcmp(key, "espeed")) sample->enhanced_speed = (uint32_t)value, sample->has |= FITREC_HAS_ENHANCED_SPEED;
+    else if (!strcmp(key, "ealt")) sample->enhanced_altitude = (uint32_t)value, sample->has |= FITREC_HAS_ENHANCED_ALTITUDE;
     else fail("an unknown key");
 }
 
 static uint8_t hand_sample(uint32_t time, char *rest) {
-    struct fitrec_sample sample = FITREC_NO_VALUES(time);
+    struct fitrec_sample sample = {.time = time};
     for (char *word = strtok(rest, " \n"); word; word = strtok(NULL, " \n")) {
         char *value = strchr(word, '=');
         *value = 0;
@@ -367,7 +367,7 @@ static uint8_t step_by_windows(const char *word) {
 /* A start with a sport that is none leaves the recorder, and plans nothing. */
 static void start_without_a_sport(void) {
     struct fitrec_recorder before = room.recorder;
-    if (fitrec_start(&room.recorder, 1000000000, 7, 3 + (uint8_t)chance(253), &room.plan) != FITREC_NO_SPORT || room.plan.count)
+    if (fitrec_start(&room.recorder, size_of_data(), 1000000000, 7, 3 + (uint8_t)chance(253), &room.plan) != FITREC_NO_SPORT || room.plan.count)
         fail("a start with a sport that is none");
     if (memcmp(&before, &room.recorder, sizeof before))
         fail("a start with a sport that is none changed the recorder");
@@ -390,8 +390,7 @@ static uint8_t step(char *line, char word[16]) {
     if (strstr("recover reopen erase", word)) return is_by_windows ? step_by_windows(word) : step_over_files(word);
     if (!strcmp(word, "start")) {
         sscanf(line, "%*s %*u %llu %15s", &serial, sport);
-        recorder->data_size = size_of_data();
-        return fitrec_start(recorder, (uint32_t)time, (uint32_t)serial, sport[0] == 'g' ? 0 : sport[0] == 'r' ? 1 : 2, &room.plan);
+        return fitrec_start(recorder, size_of_data(), (uint32_t)time, (uint32_t)serial, sport[0] == 'g' ? 0 : sport[0] == 'r' ? 1 : 2, &room.plan);
     }
     if (!strcmp(word, "sample")) return hand_sample((uint32_t)time, line + used);
     if (!strcmp(word, "lap")) return fitrec_add_lap(recorder, (uint32_t)time, &room.plan);
@@ -497,7 +496,7 @@ static void refuse_random(void) {
         if (times % 100 == 0)
             memcpy(bytes + 1496, "fitr", 4);
         struct fitrec_recorder before = room.recorder;
-        struct fitrec_sample sample = FITREC_NO_VALUES(1000000000);
+        struct fitrec_sample sample = {.time = 1000000000};
         uint8_t answers[] = {fitrec_add_sample(&room.recorder, &sample, &room.plan), fitrec_add_lap(&room.recorder, 1, &room.plan),
                              fitrec_pause_timer(&room.recorder, 1, &room.plan), fitrec_resume_timer(&room.recorder, 1, &room.plan),
                              fitrec_commit(&room.recorder, &room.plan), fitrec_stop(&room.recorder, 1, &room.plan)};

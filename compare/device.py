@@ -79,7 +79,7 @@ void *memset(void *to, int byte, size_t count) {
     return to;
 }
 void _start(void) {
-    fitrec_start(&recorder, 1000000000, 7, 1, &plan);
+    fitrec_start(&recorder, 0, 1000000000, 7, 1, &plan);
 }
 """
 # The room for the stack of the module in C, and the most bytes that its calls take of it.

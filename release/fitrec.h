@@ -382,7 +382,7 @@ uint8_t fitrec_values(const uint8_t *bytes, size_t size, uint16_t message, const
    - At the first call that fails it makes no further step with this handle, and drops it. The ride goes on through fitrec_reopen, or ends
      with fitrec_recover.
    - Both files keep their names, and nobody else writes them.
-   - It changes nothing in the handle but data_size, and that only before a start.
+   - It changes nothing in the handle.
    - After a reset that is no sleep (power, watchdog, brown-out) it drops the handle, and reopens or recovers the ride: the handle may be
      ahead of the files. A copy of a handle counts only if it is the latest one and its plan was carried out whole.
 
@@ -419,10 +419,9 @@ struct fitrec_plan {
     uint8_t bytes[FITREC_MOST_BYTES];
 };
 
-/* A recorder. Before fitrec_start the host sets data_size to the length of activity.fit. The other numbers are the library's. */
+/* A recorder. Its numbers are the library's. */
 struct fitrec_recorder {
-    uint64_t data_size;
-    uint64_t numbers[190];
+    uint64_t numbers[191];
 };
 
 /* A recovery, a reopening or an erasing that reads the files by windows. */
@@ -438,8 +437,25 @@ struct fitrec_recovery {
     uint64_t numbers[226]; /* the library's own */
 };
 
-/* The values of the sensors at one time. A sensor without a value has the greatest number of its type, such as UINT16_MAX. A device gives
-   speed or enhanced_speed, and altitude or enhanced_altitude, whichever it measures. */
+/* Which values a sample has: the sum of some of these. */
+enum {
+    FITREC_HAS_LAT = 1,
+    FITREC_HAS_LON = 2,
+    FITREC_HAS_POSITION = FITREC_HAS_LAT | FITREC_HAS_LON,
+    FITREC_HAS_DISTANCE = 4,
+    FITREC_HAS_ENHANCED_SPEED = 8,
+    FITREC_HAS_ENHANCED_ALTITUDE = 16,
+    FITREC_HAS_ALTITUDE = 32,
+    FITREC_HAS_SPEED = 64,
+    FITREC_HAS_POWER = 128,
+    FITREC_HAS_HEART_RATE = 256,
+    FITREC_HAS_CADENCE = 512,
+    FITREC_HAS_TEMPERATURE = 1024
+};
+
+/* The values of the sensors at one time. What is not named in has is absent, so a sample of zeros has no values. A value that is the greatest
+   number of its type, such as UINT16_MAX, is absent too. A device gives speed or enhanced_speed, and altitude or enhanced_altitude, whichever
+   it measures. */
 struct fitrec_sample {
     uint32_t time;              /* seconds since 1989-12-31 00:00 UTC */
     int32_t lat;                /* semicircles: 2^31 of them are 180 degrees */
@@ -447,6 +463,7 @@ struct fitrec_sample {
     uint32_t distance;          /* centimetres since the start */
     uint32_t enhanced_speed;    /* millimetres a second */
     uint32_t enhanced_altitude; /* fifths of a metre above -500 m */
+    uint32_t has;               /* which of the values are there */
     uint16_t altitude;          /* fifths of a metre above -500 m */
     uint16_t speed;             /* millimetres a second */
     uint16_t power;             /* watts */
@@ -454,10 +471,6 @@ struct fitrec_sample {
     uint8_t cadence;            /* turns or steps a minute */
     int8_t temperature;         /* degrees Celsius */
 };
-
-/* A sample without values, at a time. */
-#define FITREC_NO_VALUES(time) \
-    { (time), INT32_MAX, INT32_MAX, UINT32_MAX, UINT32_MAX, UINT32_MAX, UINT16_MAX, UINT16_MAX, UINT16_MAX, UINT8_MAX, UINT8_MAX, INT8_MAX }
 
 /* Where a ride stands: what the next entry has to follow. */
 struct fitrec_state {
@@ -496,9 +509,10 @@ enum {
    make the next call. */
 #define FITREC_NEEDS_WINDOW 13
 
-/* Begins a ride on an empty data file. time in seconds since 1989-12-31 00:00 UTC; serial of the device, or 0; sport 0 generic, 1 running,
+/* Begins a ride on an empty data file. data_size is the length of activity.fit in bytes, also if that is to be 0; time in seconds since 1989-12-31 00:00 UTC; serial of the device, or 0; sport 0 generic, 1 running,
    2 cycling. At most 11 calls; after them the start is committed. */
-uint8_t fitrec_start(struct fitrec_recorder *recorder, uint32_t time, uint32_t serial, uint8_t sport, struct fitrec_plan *plan);
+uint8_t fitrec_start(struct fitrec_recorder *recorder, uint64_t data_size, uint32_t time, uint32_t serial, uint8_t sport,
+                     struct fitrec_plan *plan);
 
 /* Hands an entry to the recorder. At most one call. A power cut loses the entry unless it is committed. */
 uint8_t fitrec_add_sample(struct fitrec_recorder *recorder, const struct fitrec_sample *sample, struct fitrec_plan *plan);

@@ -17,13 +17,11 @@ int main(void) {
     static struct fitrec_plan plan;
     double least = 1e18, commit = 1e18;
     for (int run = 0; run < 5; run++) {
-        recorder.data_size = 0;
-        if (fitrec_start(&recorder, 1000000000, 7, 2, &plan))
+        if (fitrec_start(&recorder, 0, 1000000000, 7, 2, &plan))
             return 1;
         double begun = now();
         for (uint32_t k = 0; k < SAMPLES; k++) {
-            struct fitrec_sample sample = FITREC_NO_VALUES(1000000000 + k);
-            sample.heart_rate = (uint8_t)(90 + k % 80);
+            struct fitrec_sample sample = {.time = 1000000000 + k, .has = FITREC_HAS_HEART_RATE, .heart_rate = (uint8_t)(90 + k % 80)};
             if (fitrec_add_sample(&recorder, &sample, &plan))
                 return 1;
         }

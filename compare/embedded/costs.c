@@ -86,10 +86,11 @@ int main(int count, char **words) {
     fs_format();
     if (fs_mount())
         fail("mount", 0);
-    recorder.data_size = 0;
-    step(fitrec_start(&recorder, 1000000000, 7, 2, &plan), 1);
+    step(fitrec_start(&recorder, 0, 1000000000, 7, 2, &plan), 1);
     for (uint32_t k = 1; k <= SAMPLES; k++) {
-        struct fitrec_sample sample = FITREC_NO_VALUES(1000000000 + k);
+        struct fitrec_sample sample = {.time = 1000000000 + k};
+        sample.has = FITREC_HAS_POSITION | FITREC_HAS_ALTITUDE | FITREC_HAS_HEART_RATE | FITREC_HAS_CADENCE;
+        sample.has |= FITREC_HAS_DISTANCE | FITREC_HAS_SPEED | FITREC_HAS_POWER | FITREC_HAS_TEMPERATURE;
         sample.lat = (int32_t)(566012345 + 100 * k), sample.lon = (int32_t)(102345678 - 50 * k), sample.altitude = (uint16_t)(2655 + k % 500);
         sample.heart_rate = (uint8_t)(100 + k % 80), sample.cadence = (uint8_t)(80 + k % 9), sample.distance = 7 * k;
         sample.speed = (uint16_t)(6000 + k % 500), sample.power = (uint16_t)(200 + k % 100), sample.temperature = (int8_t)(k % 30);

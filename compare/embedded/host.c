@@ -63,10 +63,9 @@ static uint8_t done(int number, const char *word, uint8_t answer) {
 
 static void ride(void) {
     int number = 1;
-    recorder.data_size = 0;
-    done(number++, "start", fitrec_start(&recorder, 1000000000, 7, 2, &plan));
+    done(number++, "start", fitrec_start(&recorder, 0, 1000000000, 7, 2, &plan));
     for (uint32_t k = 1; k <= SAMPLES; k++) {
-        struct fitrec_sample sample = FITREC_NO_VALUES(1000000000 + k);
+        struct fitrec_sample sample = {.time = 1000000000 + k, .has = FITREC_HAS_HEART_RATE | FITREC_HAS_POWER | FITREC_HAS_LAT};
         sample.heart_rate = (uint8_t)(60 + chance(99)), sample.power = (uint16_t)chance(700), sample.lat = (int32_t)(566012345 + 1000 * k);
         done(number++, "sample", fitrec_add_sample(&recorder, &sample, &plan));
         if (k % EVERY == 0)

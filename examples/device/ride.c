@@ -69,8 +69,7 @@ static uint8_t begin(uint32_t time) {
             return answer;
         size = 0; /* an erasing or a start was cut off: nothing is lost */
     }
-    recorder.data_size = (uint64_t)size;
-    return done(fitrec_start(&recorder, time, 7, 2, &plan));
+    return done(fitrec_start(&recorder, (uint64_t)size, time, 7, 2, &plan));
 }
 
 int main(int count, char **words) {
@@ -84,7 +83,7 @@ int main(int count, char **words) {
         uint8_t answer = samples == 0 ? begin(time) : FITREC_OK;
         if (answer)
             give_up("no ride can begin here", answer);
-        struct fitrec_sample sample = FITREC_NO_VALUES(time);
+        struct fitrec_sample sample = {.time = time, .has = FITREC_HAS_HEART_RATE | FITREC_HAS_DISTANCE};
         sample.heart_rate = (uint8_t)heart_rate;
         sample.distance = distance;
         if ((answer = done(fitrec_add_sample(&recorder, &sample, &plan))))

@@ -1,5 +1,7 @@
 -- The calls over lent files lead from any files of which reads give these bytes.
-use Rattle.std.proofs.Common.{◌≡◌, inl, ℕ, Bool, true, false, List, [], refl, sym, ap, ◌∙◌, subst, Err}
+use Rattle.std.proofs.lemmas.Bool.{cases_lt}
+use Rattle.std.proofs.lemmas.List.{get_or-replicate, get_or_past, length-replicate}
+use Rattle.std.proofs.Common.{◌≡◌, inl, inr, length, replicate, eqb, eq-eqb, eqb-true, arith, ℕ, Bool, true, false, List, [], refl, sym, ap, ◌∙◌, subst, Err}
 use Rattle.std.specs.Str.{bytes_eq}
 use Rattle.std.proofs.lemmas.Slice.Eq.{bytes_eq-Decides}
 use Rattle.fit_device.specs.Recovering.{SoundFiles, AreLent}
@@ -57,6 +59,33 @@ chosen_is files in_data in_journal lent =
     let same_journal : bytes_eq (seen_of Journal files.story) in_journal ≡ true = (bytes_eq-Decides _ _).1 lent.1 in
     ap (λ (same : Bool). choose same (bytes_eq (seen_of Journal files.story) in_journal) files.story (rests in_data in_journal)) same_data
     ∙ ap (λ (same : Bool). choose true same files.story (rests in_data in_journal)) same_journal
+
+-- the files, if the data file has this length, and else files that are at rest, of which one has
+pub sized : SoundFiles → ℕ → Story
+sized files size = choose (eqb (length (seen_of Data files.story)) size) true files.story (rests (replicate size 0) [])
+
+zeros : (size : ℕ) → IsBytes (replicate size 0)
+zeros size place =
+    elim (cases_lt place size) [
+      | inl within ↦ omega (arith, get_or-replicate {A = ℕ} size place 0 0 within)
+      | inr past ↦ omega (arith, get_or_past {X = ℕ} (replicate size 0) place 0 (omega (arith, past, length-replicate {A = ℕ} size 0)))
+    ]
+
+pub sized_sound : (files : SoundFiles) (size : ℕ) → IsSound (sized files size).now
+unfolding sized
+sized_sound files size =
+    choice (λ (story : Story). IsSound story.now) _ _ files.story (rests (replicate size 0) []) (λ _ _. files.sound)
+    (record { data_left = left_rest (replicate size 0) (zeros size); journal_left = left_rest [] (λ place. omega arith) })
+
+pub sized_long : (files : SoundFiles) (size : ℕ) → length (seen_of Data (sized files size)) ≡ size
+unfolding sized
+sized_long files size =
+    choice (λ (story : Story). length (seen_of Data story) ≡ size) _ _ files.story (rests (replicate size 0) []) (λ same _. eqb-true _ _ same)
+    (length-replicate size 0)
+
+pub sized_is : (files : SoundFiles) (size : ℕ) → length (seen_of Data files.story) ≡ size → sized files size ≡ files.story
+unfolding sized choose
+sized_is files size long = ap (λ (same : Bool). choose same true files.story (rests (replicate size 0) [])) (eq-eqb _ _ long)
 
 pub moments : (old earlier new later : Story) → old ≡ earlier → new ≡ later → Throughout (LeftOrErased old.now) old new → Throughout (LeftOrErased earlier.now) earlier later
 moments old earlier new later olds news is =

@@ -19,10 +19,9 @@ use std::mem;
 // Stands in each handle of a recorder: the bytes "fitr", low byte first.
 const MARK: u32 = 0x7274_6966;
 
-/// A recorder as plain numbers. C keeps it where it likes, and changes nothing in it but `data_size`, before a start.
+/// A recorder as plain numbers. C keeps it where it likes, and changes nothing in it.
 ///
-/// C owes what the ghost facts say: `data_size` is the length of the data file, and only a call of this library makes numbers
-/// with the mark and their check code.
+/// C owes what the ghost facts say: only a call of this library makes numbers with the mark and their check code.
 #[repr(C)]
 pub struct Handle {
     /// The length of the data file in bytes.
@@ -49,16 +48,6 @@ impl Handle {
         self.mark == MARK && self.seal == seal_of(&self.recorder, self.data_size)
     }
 
-    // Its two files, once more.
-    pub(crate) fn files(&self) -> Files
-        ensures { result.notes.story ≡ handle_story self.now }
-    {
-        Files {
-            size: self.data_size,
-            notes: self.notes.same(),
-        }
-    }
-
     // Takes the two files out of the handle, which is none of a recorder then.
     pub(crate) fn take_files(&mut self) -> Plan
         ensures story { plan_story result ≡ handle_story self.old }
@@ -70,16 +59,6 @@ impl Handle {
         self.data_size = 0;
         self.mark = 0;
         plan
-    }
-
-    // Puts the two files into the handle, which is none of a recorder.
-    pub(crate) fn put_files(&mut self, files: Files)
-        ensures none { IsRecorder self.new → ⊥ }
-        ensures story { handle_story self.new ≡ files.notes.story }
-    {
-        self.mark = 0;
-        self.data_size = files.size;
-        self.notes = files.notes;
     }
 
     // Leaves no recorder in the handle.

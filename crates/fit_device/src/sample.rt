@@ -1,12 +1,12 @@
 // A sample in the memory of C.
 
-ghost use Rattle.std.specs.Prelude.{◌≡◌, ◌==◌, if◌then◌else◌, Some, None};
-ghost use Rattle.fit_device.specs.Sampled.{unless, unless_signed, sample_given};
+ghost use Rattle.std.specs.Prelude.{◌≡◌, ◌<◌, ◌==◌, if◌then◌else◌, Some, None};
+ghost use Rattle.fit_device.specs.Sampled.{given, unless, unless_signed, sample_given};
 
 use fit_activity::Sample;
 
-/// The values of the sensors at one time, in the units of `fit_activity::Sample`. A sensor without a value has the greatest
-/// number of its type.
+/// The values of the sensors at one time, in the units of `fit_activity::Sample`. The bits of `has` say which are there. A value is also
+/// absent if it is the greatest number of its type.
 #[repr(C)]
 #[derive(Clone, Copy)]
 pub struct DeviceSample {
@@ -16,6 +16,7 @@ pub struct DeviceSample {
     pub distance: u32,
     pub enhanced_speed: u32,
     pub enhanced_altitude: u32,
+    pub has: u32,
     pub altitude: u16,
     pub speed: u16,
     pub power: u16,
@@ -24,23 +25,58 @@ pub struct DeviceSample {
     pub temperature: i8,
 }
 
+// The bits of `has`.
+const LAT: u32 = 1;
+
+const LONG: u32 = 2;
+
+const DISTANCE: u32 = 4;
+
+const ENHANCED_SPEED: u32 = 8;
+
+const ENHANCED_ALTITUDE: u32 = 16;
+
+const ALTITUDE: u32 = 32;
+
+const SPEED: u32 = 64;
+
+const POWER: u32 = 128;
+
+const HEART_RATE: u32 = 256;
+
+const CADENCE: u32 = 512;
+
+const TEMPERATURE: u32 = 1024;
+
 pub(crate) fn sample_of(sample: &DeviceSample) -> Sample
     ensures { result ≡ sample_given sample.now }
 {
     Sample {
         time: sample.time,
-        lat: i32_of(sample.lat),
-        long: i32_of(sample.long),
-        altitude: u16_of(sample.altitude),
-        heart_rate: u8_of(sample.heart_rate),
-        cadence: u8_of(sample.cadence),
-        distance: u32_of(sample.distance),
-        speed: u16_of(sample.speed),
-        power: u16_of(sample.power),
-        temperature: i8_of(sample.temperature),
-        enhanced_speed: u32_of(sample.enhanced_speed),
-        enhanced_altitude: u32_of(sample.enhanced_altitude),
+        lat: given(sample.has, LAT, i32_of(sample.lat)),
+        long: given(sample.has, LONG, i32_of(sample.long)),
+        altitude: given(sample.has, ALTITUDE, u16_of(sample.altitude)),
+        heart_rate: given(sample.has, HEART_RATE, u8_of(sample.heart_rate)),
+        cadence: given(sample.has, CADENCE, u8_of(sample.cadence)),
+        distance: given(sample.has, DISTANCE, u32_of(sample.distance)),
+        speed: given(sample.has, SPEED, u16_of(sample.speed)),
+        power: given(sample.has, POWER, u16_of(sample.power)),
+        temperature: given(sample.has, TEMPERATURE, i8_of(sample.temperature)),
+        enhanced_speed: given(sample.has, ENHANCED_SPEED, u32_of(sample.enhanced_speed)),
+        enhanced_altitude: given(
+            sample.has,
+            ENHANCED_ALTITUDE,
+            u32_of(sample.enhanced_altitude),
+        ),
     }
+}
+
+// A value, if its bit is set.
+fn given<T: Drop>(has: u32, bit: u32, value: Option<T>) -> Option<T>
+    requires { 0 < bit }
+    ensures { result ≡ given has bit value }
+{
+    if has / bit % 2 == 1 { value } else { None }
 }
 
 fn u8_of(value: u8) -> Option<u8>

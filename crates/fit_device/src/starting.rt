@@ -1,6 +1,12 @@
 // Start, commit and stop of a recorder in the memory of C.
 
-ghost use Rattle.std.specs.Prelude.{◌≡◌, ◌≤◌, ◌<◌, ◌↔◌, true, IfSome, IsSome};
+ghost use Rattle.std.specs.Prelude.{◌≡◌, ◌≤◌, ◌<◌, ◌↔◌, true, length, IfSome, IsSome};
+ghost use Rattle.fit_disk.specs.Calls.{IsSound};
+ghost use Rattle.fit_disk.specs.Story.{Story, seen_of};
+ghost use Rattle.fit_disk.specs.declared.disk.Which.TheVariants.{Data};
+ghost use Rattle.fit_plan.specs.Plan.{plan_story};
+ghost use Rattle.fit_device.specs.Lending.{Begun};
+ghost use Rattle.fit_device.specs.Recovering.{SoundFiles};
 ghost use Rattle.fit_activity.specs.Rides.Frozen.{sport_in};
 ghost use Rattle.fit_device.specs.Answer.{no_sport};
 ghost use Rattle.fit_device.specs.Starts.{Starts};
@@ -12,21 +18,25 @@ use crate::answer::{NO_RECORDER, NO_SPORT, code_of, code_of_fault};
 use crate::handle::{Handle, no_files};
 use crate::plan::DevicePlan;
 use fit_activity::{Sport, Start};
+use fit_notes::Notes;
+use fit_plan::Plan;
 use fit_recorder::Recorder;
 
-/// Begins a recording over two files, of which `data_size` of the handle is the length of the data file, and plans at most
-/// eleven calls. Whatever else the handle held is forgotten.
+/// Begins a recording over two files, of which the data file has `data_size` bytes, and plans at most eleven calls. Whatever the handle
+/// held is forgotten.
 #[unsafe(no_mangle)]
 pub extern "C" fn fitrec_start(
     handle: &mut Handle,
+    data_size: u64,
     time: u32,
     serial: u32,
     sport: u8,
     plan: &mut DevicePlan,
 ) -> u8
-    ensures starts { sport ≤ 2
+    ghost before: { SoundFiles }
+    ensures starts { data_size ≡ length (seen_of Data before.story) → sport ≤ 2
         → Starts (record { time = time; serial = serial; sport = sport_in sport })
-        handle.old handle.new plan.new result }
+        before.story handle.new plan.new result }
     // The journal has checksums.
     ensures checked { result ≡ 0 → are_checked (state_in handle.new.recorder).journal_slots ≡ true }
     ensures no_sport { 2 < sport
@@ -41,16 +51,15 @@ pub extern "C" fn fitrec_start(
         serial,
         sport,
     };
-    let before = handle.files();
-    let mut recorder = Recorder::idle(handle.take_files());
+    let mut recorder = Recorder::idle(over(data_size));
     match recorder.begin(&start, true) {
         Ok(()) => {
             handle.put(&recorder, plan);
             0
         }
         Err(fault) => {
+            handle.leave();
             plan.clear(); // A sync may be planned by then.
-            handle.put_files(before);
             code_of_fault(&fault)
         }
     }
@@ -85,6 +94,17 @@ pub extern "C" fn fitrec_stop(handle: &mut Handle, time: u32, plan: &mut DeviceP
     let answer = recorder.stop(time);
     handle.put(&recorder, plan);
     code_of(&answer)
+}
+
+// No calls yet, over two files, of which the data file has this length.
+fn over(data_size: u64) -> Plan
+    ghost before: { Story }
+    requires sound { IsSound before.now }
+    requires sized { length (seen_of Data before) ≡ data_size }
+    ensures story { plan_story result ≡ before }
+    ensures begun { Begun result }
+{
+    Plan::over(data_size, Notes::over())
 }
 
 // The sport of a number of the profile.

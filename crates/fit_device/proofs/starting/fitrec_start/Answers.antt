@@ -17,10 +17,10 @@ use Rattle.fit_recorder.specs.declared.fault.RecFault.{RecFault}
 use Rattle.fit_recorder.specs.declared.fault.RecFault.TheVariants.{NotEmpty, Refused, Full, JournalFull, Device, Failed, NothingRecorded, Damaged}
 use Rattle.fit_plan.proofs.Room.{has_room}
 use Rattle.fit_device.specs.Answer.{code_of_fault}
-use Rattle.fit_device.proofs.Leading.{leads_for, leads_since}
+use Rattle.fit_device.proofs.Leading.{leads_since}
+use Rattle.fit_device.proofs.Lending.{sized_sound, sized_long, sized_is}
 use Rattle.fit_journal.specs.Turn.{slots_left}
 use Rattle.fit_recorder.specs.Private.State.{RecorderState}
-use Rattle.fit_device.specs.Handle.{handle_story}
 use Rattle.fit_device.specs.Starts.{Starts}
 use Rattle.fit_device.proofs.Stepping.{not_device, stands, on_ok}
 use Rattle.fit_device.proofs.starting.fitrec_start.Goals as goal
@@ -44,20 +44,26 @@ is_not_empty Failed code is not_empty = absurd (omega (arith, is, not_empty))
 is_not_empty NothingRecorded code is not_empty = absurd (omega (arith, is, not_empty))
 is_not_empty Damaged code is not_empty = absurd (omega (arith, is, not_empty))
 
+pub over-requires : goal.over-requires
+over-requires g c = (sized_sound g.before c.args.data_size, sized_long g.before c.args.data_size)
+
 pub returns-in-Ok-clause-starts : goal.returns-in-Ok-clause-starts
-returns-in-Ok-clause-starts c = λ _.
-    let old = c.args.handle.now in
+returns-in-Ok-clause-starts g c = λ long _.
+    let old = g.before.story in
     let new = c.put.new.self in
     let plan = c.put.new.plan in
     let recorder = c.begin.new.self in
     let start : Start = record { time = c.args.time; serial = c.args.serial; sport = c.in-Some.sport } in
     let put = c.put.ensures in
     let did = c.in-Ok.ensures in
-    let here = ap plan_story c.idle-recorder.ensures.disk ∙ c.take_files.ensures.story in
+    let files = c.over.ensures.story ∙ sized_is g.before c.args.data_size (sym long) in
+    let here = ap plan_story c.idle-recorder.ensures.disk ∙ files in
+    let leads = leads_since plan c.idle-recorder.result.files.disk c.begin.new.self.files.disk old _ _ (ap plan_since c.idle-recorder.ensures.disk ∙ c.over.ensures.begun.since ∙ files) did.ran.ran.memory (sym put.story) put.planned in
     let starts : Starts start old new plan 0 = record {
-      planned = leads_since plan c.idle-recorder.result.files.disk c.begin.new.self.files.disk _ _ _ (ap plan_since c.idle-recorder.ensures.disk ∙ c.take_files.ensures.since) did.ran.ran.memory (sym put.story) put.planned;
+      well_formed = leads.well_formed;
       no_device = λ device. omega (arith, device);
       ok = λ _. (
+        leads.ends,
         stands new plan recorder put (Started start ∷ []) (Started start ∷ []) did.ok.0 did.ok.1,
         ap slots_left (ap (λ (state : RecorderState). state.journal_slots) put.state ∙ did.begun.turns),
       );
@@ -66,40 +72,40 @@ returns-in-Ok-clause-starts c = λ _.
       gone = λ no. absurd (no refl);
       not_empty = λ is. absurd (omega (arith, is));
       same = λ no. absurd (no refl);
-      any_moment = in_start start _ _ _ _ here (sym put.story) (did.any_moment refl);
+      any_moment = in_start start _ _ _ _ here (sym put.story ∙ leads.ends) (did.any_moment refl);
     } in
     subst (λ (sport : Sport). Starts (record { time = c.args.time; serial = c.args.serial; sport = sport }) old new plan 0) c.in-Some.ensures.some starts
 
 pub returns-in-Err-clause-starts : goal.returns-in-Err-clause-starts
-returns-in-Err-clause-starts c = λ _.
-    let old = c.args.handle.now in
-    let new = c.put_files.new.self in
+returns-in-Err-clause-starts g c = λ long _.
+    let old = g.before.story in
+    let new = c.leave.new.self in
     let plan = c.clear-in-Err.new.self in
     let start : Start = record { time = c.args.time; serial = c.args.serial; sport = c.in-Some.sport } in
     let did = c.in-Err.ensures in
     let code = c.code_of_fault.result in
-    let here = ap plan_story c.idle-recorder.ensures.disk ∙ c.take_files.ensures.story in
-    let same = c.put_files.ensures.story ∙ c.files-before.ensures in
+    let here = ap plan_story c.idle-recorder.ensures.disk ∙ c.over.ensures.story ∙ sized_is g.before c.args.data_size (sym long) in
     let fault = c.in-Err.fault in
     let is = c.code_of_fault.ensures in
+    let leads = c.clear-in-Err.ensures.leads old in
     let never : fault ≡ Device → ⊥ =
-    λ device. has_room start_calls start_bytes _ c.idle-recorder.result.files.disk c.begin.new.self.files.disk (ap plan_counts c.idle-recorder.ensures.disk ∙ c.take_files.ensures.none.0) (ap room_in c.idle-recorder.ensures.disk ∙ c.take_files.ensures.none.1) (omega arith) (omega arith) did.ran.room (ap Err device) in
+    λ device. has_room start_calls start_bytes _ c.idle-recorder.result.files.disk c.begin.new.self.files.disk (ap plan_counts c.idle-recorder.ensures.disk ∙ c.over.ensures.begun.counts) (ap room_in c.idle-recorder.ensures.disk ∙ c.over.ensures.begun.room) (omega arith) (omega arith) did.ran.room (ap Err device) in
     let starts : Starts start old new plan code = record {
-      planned = leads_for plan _ _ _ _ refl (sym same) (c.clear-in-Err.ensures.leads (handle_story old));
+      well_formed = leads.well_formed;
       no_device = not_device fault code is never;
       ok = λ zero. absurd (on_ok {P = ⊥} (Err fault) code is zero tt);
       was_empty = λ zero. absurd (on_ok {P = ⊥} (Err fault) code is zero tt);
       refused = λ _. (fault, is, did.answers);
-      gone = λ _. c.put_files.ensures.none;
+      gone = λ _. c.leave.ensures;
       not_empty = λ number empty. (did.handed_back.not_empty refl (is_not_empty fault code is number)).0 (ap (seen_of Data) here ∙ empty);
-      same = λ _. (c.clear-in-Err.ensures.none, same);
-      any_moment = no_start start _ _ same;
+      same = λ _. (c.clear-in-Err.ensures.none, sym leads.ends);
+      any_moment = no_start start _ _ (sym leads.ends);
     } in
     subst (λ (sport : Sport). Starts (record { time = c.args.time; serial = c.args.serial; sport = sport }) old new plan code) c.in-Some.ensures.some starts
 
 pub returns-in-Ok-clause-checked : goal.returns-in-Ok-clause-checked
-returns-in-Ok-clause-checked c = λ _. ap (λ (state : RecorderState). are_checked state.journal_slots) c.put.ensures.state ∙ ap are_checked c.in-Ok.ensures.begun.turns
+returns-in-Ok-clause-checked g c = λ _. ap (λ (state : RecorderState). are_checked state.journal_slots) c.put.ensures.state ∙ ap are_checked c.in-Ok.ensures.begun.turns
 
 pub returns-in-Err-clause-checked : goal.returns-in-Err-clause-checked
-returns-in-Err-clause-checked c = λ zero.
-    on_ok {P = are_checked (state_in c.put_files.new.self.recorder).journal_slots ≡ true} (Err c.in-Err.fault) c.code_of_fault.result c.code_of_fault.ensures zero tt
+returns-in-Err-clause-checked g c = λ zero.
+    on_ok {P = are_checked (state_in c.leave.new.self.recorder).journal_slots ≡ true} (Err c.in-Err.fault) c.code_of_fault.result c.code_of_fault.ensures zero tt
