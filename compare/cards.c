@@ -114,6 +114,11 @@ static uint8_t repair(struct pair *files) {
     return answer == FITREC_CHANGED ? FITREC_DAMAGED : answer;
 }
 
+/* A repair does not tell an erasing that was cut off from other files in which nothing is recorded. */
+static uint8_t as_of_a_repair(uint8_t answer) {
+    return answer == FITREC_ERASING ? FITREC_NOTHING_RECORDED : answer;
+}
+
 static bool is_same(const struct file *a, const struct file *b) {
     return a->len == b->len && !memcmp(a->bytes, b->bytes, a->len);
 }
@@ -149,7 +154,7 @@ static void judge(const struct ride *ride, const struct pair *files, int most) {
         if (is_unchecked)
             make_agree(&its.of[0], &its.of[1]);
         uint8_t its_answer = ways[way](&its);
-        if (way > 0 && (its_answer != answer || !is_same(&its.of[0], &mine.of[0])))
+        if (way > 0 && (its_answer != (ways[way] == repair ? as_of_a_repair(answer) : answer) || !is_same(&its.of[0], &mine.of[0])))
             fail("another recovery of the same files");
         answer = its_answer, mine = its;
         if (answer && (!is_same(&mine.of[0], &files->of[0]) || (!is_unchecked && !is_same(&mine.of[1], &files->of[1]))))

@@ -43,7 +43,7 @@ def numbers(size):
 
 class Family(NamedTuple):
     """What stands first in a file, what is there many times, and how many messages that has. The commands that it is left out for cost
-    more, as SECURITY.md says."""
+    more, in proportion to what they print, as SECURITY.md says."""
 
     first: bytes
     many: bytes
