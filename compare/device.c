@@ -367,7 +367,7 @@ static uint8_t step_by_windows(const char *word) {
 /* A start with a sport that is none leaves the recorder, and plans nothing. */
 static void start_without_a_sport(void) {
     struct fitrec_recorder before = room.recorder;
-    if (fitrec_start(&room.recorder, size_of_data(), 1000000000, 7, 3 + (uint8_t)chance(253), &room.plan) != FITREC_NO_SPORT || room.plan.count)
+    if (fitrec_start(&room.recorder, (size_t)size_of_data(), 1000000000, 7, 3 + (uint8_t)chance(253), &room.plan) != FITREC_NO_SPORT || room.plan.count)
         fail("a start with a sport that is none");
     if (memcmp(&before, &room.recorder, sizeof before))
         fail("a start with a sport that is none changed the recorder");
@@ -390,7 +390,7 @@ static uint8_t step(char *line, char word[16]) {
     if (strstr("recover reopen erase", word)) return is_by_windows ? step_by_windows(word) : step_over_files(word);
     if (!strcmp(word, "start")) {
         sscanf(line, "%*s %*u %llu %15s", &serial, sport);
-        return fitrec_start(recorder, size_of_data(), (uint32_t)time, (uint32_t)serial, sport[0] == 'g' ? 0 : sport[0] == 'r' ? 1 : 2, &room.plan);
+        return fitrec_start(recorder, (size_t)size_of_data(), (uint32_t)time, (uint32_t)serial, sport[0] == 'g' ? 0 : sport[0] == 'r' ? 1 : 2, &room.plan);
     }
     if (!strcmp(word, "sample")) return hand_sample((uint32_t)time, line + used);
     if (!strcmp(word, "lap")) return fitrec_add_lap(recorder, (uint32_t)time, &room.plan);

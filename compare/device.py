@@ -87,6 +87,7 @@ STACK, OF_MODULE = 65536 - 64, 10240
 # A row of the table of stacks in docs/EMBEDDING.md: calls, and the bytes that one takes on each processor.
 OF_CALLS = re.compile(r"(?m)^\| ((?:`fitrec_\w+`(?:, )?)+) \| ([\d,]+) \| ([\d,]+) \| ([\d,]+) \|$")
 PROCESSORS = "for a Cortex-M4", "for a Cortex-M0+", "for RISC-V"
+FOR_ARM = dict(zip(PROCESSORS, ("fitrec-cortex-m4.o", "fitrec-cortex-m0plus.o")))
 # What a host does that breaks a rule, by its number.
 BROKEN = {1: "a call is left out", 2: "the calls are made in another order", 3: "the answer comes before the calls",
           4: "the recording goes on after a failed call", 5: "a sync keeps nothing"}
@@ -242,6 +243,15 @@ def links_alone(folder, made):
     return run("arm-none-eabi-gcc", *words, "-o", folder + "/alone.elf")
 
 
+def links_with_floats(folder, made, name):
+    """An object file links with a program that passes floats in registers."""
+    source = folder + "/alone.c"
+    pathlib.Path(source).write_text(ALONE)
+    words = ["-mcpu=cortex-m4", "-mthumb", "-mfloat-abi=hard", "-mfpu=fpv4-sp-d16", "-Os", "-w", "-ffreestanding", "-I", ROOT / "include"]
+    words += ["-nostdlib", "-Wl,--unresolved-symbols=ignore-all", source, "%s/%s" % (made, name), "-lgcc"]
+    return run("arm-none-eabi-gcc", *words, "-o", folder + "/floats.elf")
+
+
 def riscv_programs(folder, made):
     """The program for an emulated RISC-V processor."""
     start = ["--specs=picolibc.specs", "--crt0=semihost", "--oslib=semihost", *["-Wl,--defsym=%s=%d" % it for it in RISCV_MEMORY.items()]]
@@ -276,6 +286,9 @@ def of_32_bits(fitrec, count, seed):
             if isinstance(emulator, Skipped):
                 yield "a recorder of 32 bits", emulator
                 continue
+            if form in FOR_ARM:
+                linked = links_with_floats(folder, folder + "/made", FOR_ARM[form])
+                yield "an object file beside floats in registers, " + form, unless(linked[0] == 0, linked, "status 0")
             if form == "in C":
                 yield "the crate in C, without a C library", differs(links_alone(folder, folder + "/made"), (0, "", ""))
             most = {}

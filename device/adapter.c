@@ -66,7 +66,7 @@ static uint8_t by_windows(uint32_t (*step)(Z_fitrec_instance_t *, u32, u32), str
     return (uint8_t)answer;
 }
 
-uint8_t fitrec_start(struct fitrec_recorder *recorder, uint64_t data_size, uint32_t time, uint32_t serial, uint8_t sport,
+uint8_t fitrec_start(struct fitrec_recorder *recorder, size_t data_size, uint32_t time, uint32_t serial, uint8_t sport,
                      struct fitrec_plan *plan) {
     begin(recorder);
     return end(recorder, plan, Z_fitrecZ_fitrec_start(&module, recorder_at(), data_size, time, serial, sport, plan_at()));

@@ -81,7 +81,7 @@ typedef struct fitrec_recovery *recovery_at;
 typedef struct fitrec_plan *plan_at;
 typedef const uint8_t *bytes_at;
 
-MEASURED(start, (recorder_at it, uint64_t data_size, uint32_t time, uint32_t serial, uint8_t sport, plan_at plan),
+MEASURED(start, (recorder_at it, size_t data_size, uint32_t time, uint32_t serial, uint8_t sport, plan_at plan),
          (it, data_size, time, serial, sport, plan))
 MEASURED(add_sample, (recorder_at it, const struct fitrec_sample *sample, plan_at plan), (it, sample, plan))
 MEASURED(add_lap, (recorder_at it, uint32_t time, plan_at plan), (it, time, plan))

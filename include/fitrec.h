@@ -25,7 +25,7 @@ extern "C" {
 /* The version of these calls. It grows when one of them changes. */
 #define FITREC_VERSION 1
 
-/* The version that the library was built with. */
+/* The version that the library was built with. The library for devices does not have this call. */
 uint32_t fitrec_version(void);
 
 /* A number of a summary that is not there. */
@@ -511,7 +511,7 @@ enum {
 
 /* Begins a ride on an empty data file. data_size is the length of activity.fit in bytes, also if that is to be 0; time in seconds since 1989-12-31 00:00 UTC; serial of the device, or 0; sport 0 generic, 1 running,
    2 cycling. At most 11 calls; after them the start is committed. */
-uint8_t fitrec_start(struct fitrec_recorder *recorder, uint64_t data_size, uint32_t time, uint32_t serial, uint8_t sport,
+uint8_t fitrec_start(struct fitrec_recorder *recorder, size_t data_size, uint32_t time, uint32_t serial, uint8_t sport,
                      struct fitrec_plan *plan);
 
 /* Hands an entry to the recorder. At most one call. A power cut loses the entry unless it is committed. */

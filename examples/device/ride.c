@@ -69,7 +69,7 @@ static uint8_t begin(uint32_t time) {
             return answer;
         size = 0; /* an erasing or a start was cut off: nothing is lost */
     }
-    return done(fitrec_start(&recorder, (uint64_t)size, time, 7, 2, &plan));
+    return done(fitrec_start(&recorder, (size_t)size, time, 7, 2, &plan));
 }
 
 int main(int count, char **words) {

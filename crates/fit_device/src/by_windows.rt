@@ -10,7 +10,7 @@ ghost use Rattle.fit_recorder.specs.declared.fault.RecFault.TheVariants.{Device}
 
 use crate::answer::{NEEDS_WINDOW, NO_RECORDER, code_of_fault, number_of};
 use crate::files::Files;
-use crate::handle::Handle;
+use crate::handle::{Handle, no_files};
 use crate::plan::DevicePlan;
 use crate::windowed::{FINDS, RecoveryHandle};
 use fit_recorder::{FoundRide, RecFault, Recovery, erase_known, settle};
@@ -161,7 +161,8 @@ fn read_body(handle: &mut RecoveryHandle, plan: &mut DevicePlan) -> u8
 {
     let mut recovery = Recovery::idle();
     let journal_size = handle.journal_size;
-    let mut files = handle.take_reading(&mut recovery);
+    let mut files = no_files();
+    handle.take_reading(&mut recovery, &mut files);
     let answer = recovery.go_on(&mut files, handle.given());
     let files = Files::after(&files, plan);
     match answer {
@@ -189,7 +190,8 @@ fn read_ride(handle: &mut RecoveryHandle, plan: &mut DevicePlan) -> Result<(Foun
 {
     let mut recovery = Recovery::idle();
     let journal_size = handle.journal_size;
-    let mut files = handle.take_reading(&mut recovery);
+    let mut files = no_files();
+    handle.take_reading(&mut recovery, &mut files);
     let answer = recovery.take_up_on(&mut files, handle.given());
     let files = Files::after(&files, plan);
     match answer {

@@ -27,7 +27,7 @@ use fit_recorder::Recorder;
 #[unsafe(no_mangle)]
 pub extern "C" fn fitrec_start(
     handle: &mut Handle,
-    data_size: u64,
+    data_size: usize,
     time: u32,
     serial: u32,
     sport: u8,
@@ -51,7 +51,7 @@ pub extern "C" fn fitrec_start(
         serial,
         sport,
     };
-    let mut recorder = Recorder::idle(over(data_size));
+    let mut recorder = Recorder::idle(over(data_size as u64));
     match recorder.begin(&start, true) {
         Ok(()) => {
             handle.put(&recorder, plan);

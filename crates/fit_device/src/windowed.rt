@@ -117,31 +117,30 @@ impl RecoveryHandle {
         plan
     }
 
-    // Makes this recovery the one that reads on, and takes the two files out of the handle.
-    // Not inlined: its copy of the files is off the stack while the body is read.
+    // Makes this recovery the one that reads on, and takes the two files out of the handle into these.
+    // Not inlined: its copy of them is off the stack while the body is read. A value that it returned would have room there twice.
     #[inline(never)]
-    pub(crate) fn take_reading(&mut self, recovery: &mut Recovery) -> Plan
+    pub(crate) fn take_reading(&mut self, recovery: &mut Recovery, files: &mut Plan)
         requires asks { IsRecovery self.old }
         requires reads { self.old.phase ≡ finding_phase → ⊥ }
-        ensures reads { CanReadOn recovery.new × ReadsBodyOn (plan_story result) recovery.new }
+        ensures reads { CanReadOn recovery.new × ReadsBodyOn (plan_story files.new) recovery.new }
         ensures window { (self.new.filled ≡ self.old.filled) × (self.new.window ≡ self.old.window) }
         ensures given { (self.old.filled ≤ 512) × AreAt (place_of recovery.new)
-            (take self.old.filled self.old.window) (seen_of Data (plan_story result)) }
+            (take self.old.filled self.old.window) (seen_of Data (plan_story files.new)) }
         ensures placed { (self.old.at ≡ place_of recovery.new)
             × (self.old.count ≡ min 512 (recovery.new.reader.len - recovery.new.reader.at)) }
-        ensures story { plan_story result ≡ recovery_story self.old }
-        ensures since { plan_since result ≡ recovery_story self.old }
-        ensures none { (plan_counts result ≡ no_calls) × (room_in result ≡ whole_room) }
+        ensures story { plan_story files.new ≡ recovery_story self.old }
+        ensures since { plan_since files.new ≡ recovery_story self.old }
+        ensures none { (plan_counts files.new ≡ no_calls) × (room_in files.new ≡ whole_room) }
         ensures ended { IsRecovery self.new → ⊥ }
     {
         recovery.thaw(&self.reading); // There is one with these numbers, which carry their check code.
-        let files = self.take_files();
+        *files = self.take_files();
         Believed {
             recovery: &*recovery,
-            files: &files,
+            files: &*files,
         }
         .reveal();
-        files
     }
 
     // What C has filled of the window.

@@ -19,7 +19,7 @@ invariant_of-reveal c =
       reads_on = ∥∥₁_map (old.believed c.requires.asks.0 c.requires.reads) (λ (on : ReadsOnIn old.reading old.notes.story).
           let is = thawed.possible on.possible in (
             can_read_on c.thaw.new.self _ _ (thawed.reading is) (thawed.replay is) (thawed.journal is) on,
-            subst (λ (s : Story). ReadsBodyOn s c.thaw.new.self) (sym c.take_files-files.ensures.story) (reads_on c.thaw.new.self _ _ (thawed.reading is) (thawed.replay is) (thawed.journal is) on),
+            subst (λ (s : Story). ReadsBodyOn s c.thaw.new.self) (sym c.take_files.ensures.story) (reads_on c.thaw.new.self _ _ (thawed.reading is) (thawed.replay is) (thawed.journal is) on),
           ));
     }
 
@@ -41,7 +41,7 @@ returns-clause-given c =
     let placed = (old.placed c.requires.asks.0).reads c.requires.reads in
     let place : old.at ≡ place_of c.thaw.new.self = omega (arith, placed.1, at) in (
       c.requires.asks.1,
-      subst (λ (story : Story). AreAt (place_of c.thaw.new.self) (take old.filled old.window) (seen_of Data story)) (sym c.take_files-files.ensures.story)
+      subst (λ (story : Story). AreAt (place_of c.thaw.new.self) (take old.filled old.window) (seen_of Data story)) (sym c.take_files.ensures.story)
           (subst (λ (at : ℕ). AreAt at (take old.filled old.window) (seen_of Data old.notes.story)) place
           (subst (λ (file : ℕ). AreAt old.at (take old.filled old.window) (seen_of (which_of file) old.notes.story)) placed.0 (old.part c.requires.asks.0 c.requires.asks.1))),
     )
