@@ -15,7 +15,7 @@ from tools.program import run
 NEEDS = ("fitrec", "valgrind")
 
 # The most instructions for each byte that a command reads. The most bytes of JSON: for each byte, and for the line of each message.
-INSTRUCTIONS = {"check": 3000, "show --json": 10000, "show --json --profile": 5000, "table": 5000, "table --profile": 8000}
+INSTRUCTIONS = {"check": 600, "show --json": 1000, "show --json --profile": 1700, "table": 4000, "table --profile": 6000}
 WRITTEN, LINE = 60, 110
 # The most instructions for each byte of a table, which has up to 256 cells of a message of one byte.
 CELL = 150
