@@ -5,8 +5,8 @@
      ride --erase FOLDER
 
    On a system such as this a plan is carried out by pwrite, ftruncate and fsync (files.c). A folder that holds a ride without its end, as
-   after a power cut, continues it; a start or an erasing that was cut off is erased. If no line comes, the ride is finished as it was committed; with
-   --erase it is gone. Only a window of the files is ever in memory. */
+   after a power cut, continues it; a start or an erasing that was cut off is erased. If no line comes, the ride is finished as it was
+   committed; with --erase it is gone. Only a window of the files is ever in memory. */
 
 #include "files.h"
 #include <stdio.h>

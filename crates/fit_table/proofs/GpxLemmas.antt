@@ -1,5 +1,5 @@
 -- The points of a track, as the walk over the messages gives them: for `gpx`.
-use Rattle.std.proofs.Common.{◌≡◌, ℕ, zero, suc, ◌+◌, ◌<◌, ◌≤◌, ℤ, Bool, true, false, List, [], ◌∷◌, ◌++◌, length, get_or, Result, Ok, Err, OnOk, refl, sym, ap, ◌∙◌, append_assoc, append-nil, sum_by, Option, Some, None, ◌==◌, if◌then◌else◌, arith}
+use Rattle.std.proofs.Common.{◌≡◌, ℕ, zero, suc, ◌+◌, ◌<◌, ℤ, Bool, true, false, List, [], ◌∷◌, ◌++◌, length, get_or, Result, Ok, Err, OnOk, refl, sym, ap, ◌∙◌, append_assoc, append-nil, Option, Some, ◌==◌, if◌then◌else◌, arith}
 use Rattle.std.specs.List.{flat_map}
 use Rattle.fit_grammar.specs.Format.Message.{Message}
 use Rattle.fit_text.specs.Pen.{Written, Puts}

@@ -1,4 +1,4 @@
-use Rattle.std.proofs.Common.{get_or, sym, ap, ◌∙◌, length, arith}
+use Rattle.std.proofs.Common.{get_or, sym, ap, ◌∙◌, arith}
 use Rattle.fit_columns.specs.declared.place.Kind.TheVariants.{Unsigned}
 use Rattle.fit_columns.specs.declared.place.Place.{Place}
 use Rattle.fit_columns.specs.Fields.{fields_here}
