@@ -370,9 +370,9 @@ uint8_t fitrec_values(const uint8_t *bytes, size_t size, uint16_t message, const
 
 /* A recorder in a device.
 
-   The library is crates/fit_device of fitrec; docs/PROOFS.md says what is proved of it. The device keeps the recorder as plain numbers and carries out the calls of its two files,
-   activity.fit and activity.frj, itself. Each step of the recorder fills a plan of at most FITREC_MOST_CALLS calls. A step takes no
-   memory, makes no call of its own, and never waits.
+   The library is crates/fit_device of fitrec; docs/PROOFS.md says what is proved of it. The device keeps the recorder as plain numbers and
+   carries out the calls of its two files, activity.fit and activity.frj, itself. Each step of the recorder fills a plan of at most
+   FITREC_MOST_CALLS calls. A step takes no memory, makes no call of its own, and never waits.
 
    The host keeps these rules. Each is needed: without it a ride that was answered as committed may be lost.
 
@@ -453,9 +453,9 @@ enum {
     FITREC_HAS_TEMPERATURE = 1024
 };
 
-/* The values of the sensors at one time. What is not named in has is absent, so a sample of zeros has no values. A value that is the greatest
-   number of its type, such as UINT16_MAX, is absent too. A device gives speed or enhanced_speed, and altitude or enhanced_altitude, whichever
-   it measures. */
+/* The values of the sensors at one time. What is not named in has is absent, so a sample of zeros has no values. A value that is the
+   greatest number of its type, such as UINT16_MAX, is absent too. A device gives speed or enhanced_speed, and altitude or
+   enhanced_altitude, whichever it measures. */
 struct fitrec_sample {
     uint32_t time;              /* seconds since 1989-12-31 00:00 UTC */
     int32_t lat;                /* semicircles: 2^31 of them are 180 degrees */
@@ -509,8 +509,9 @@ enum {
    make the next call. */
 #define FITREC_NEEDS_WINDOW 13
 
-/* Begins a ride on an empty data file. data_size is the length of activity.fit in bytes, also if that is to be 0; time in seconds since 1989-12-31 00:00 UTC; serial of the device, or 0; sport 0 generic, 1 running,
-   2 cycling. At most 11 calls; after them the start is committed. */
+/* Begins a ride on an empty data file. data_size is the length of activity.fit in bytes, also if that is to be 0; time in seconds since
+   1989-12-31 00:00 UTC; serial of the device, or 0; sport 0 generic, 1 running, 2 cycling. At most 11 calls; after them the start is
+   committed. */
 uint8_t fitrec_start(struct fitrec_recorder *recorder, size_t data_size, uint32_t time, uint32_t serial, uint8_t sport,
                      struct fitrec_plan *plan);
 
@@ -549,9 +550,9 @@ uint8_t fitrec_erase(const uint8_t *data, size_t data_size, const uint8_t *journ
    bytes at a time.
 
    The host sets the recovery to zeros, and data_size and journal_size to the lengths of the files. It calls fitrec_recover_begin, and then
-   again and again one of fitrec_recover_next, fitrec_reopen_next and fitrec_erase_next. After each call it carries out the plan, whole and in
-   order. As long as the answer is FITREC_NEEDS_WINDOW, it then reads the window that is asked for, and calls on. Any other answer is the end, and
-   that of fitrec_recover, fitrec_reopen or fitrec_erase. The host keeps these rules too:
+   again and again one of fitrec_recover_next, fitrec_reopen_next and fitrec_erase_next. After each call it carries out the plan, whole and
+   in order. As long as the answer is FITREC_NEEDS_WINDOW, it then reads the window that is asked for, and calls on. Any other answer is the
+   end, and that of fitrec_recover, fitrec_reopen or fitrec_erase. The host keeps these rules too:
 
    - The recovery stays as it is between two calls, but for window and filled.
    - The files change only by the plans.
