@@ -1,10 +1,16 @@
-"""A step of a recorder in a device, by the static library for C, without carrying out its plan; and what a linker keeps of the object files
-of release/ for some calls. That needs Debian's gcc-arm-none-eabi and gcc-riscv64-unknown-elf."""
+"""A step of a recorder in a device, by the static library for C, without carrying out its plan; what a linker keeps of the object files of
+release/ for some calls; and how many instructions a boot takes by them that finds a ride of three hours, on an emulated processor. That needs
+Debian's gcc-arm-none-eabi, libnewlib-arm-none-eabi, qemu-system-arm, gcc-riscv64-unknown-elf, picolibc-riscv64-unknown-elf and
+qemu-system-misc."""
 
 import re
 import shutil
+import sys
 
 from tools import ROOT, compiled, kept, run
+
+sys.path.insert(0, str(ROOT / "device"))
+import boards
 
 RECORDING = ["start", "add_sample", "add_lap", "pause_timer", "resume_timer", "commit", "stop"]
 BY_WINDOWS = [*RECORDING, "recover_begin", "recover_next", "reopen_next", "erase_next"]
@@ -25,6 +31,15 @@ def code_of(work, processor, calls):
     return sum(int(size, 16) for size, file in SECTION.findall(kept_parts) if file.endswith("fitrec-%s.o" % processor))
 
 
+def instructions_of(work, processor):
+    """The bytes of the ride, and the thousands of instructions."""
+    words, board = boards.BOARDS[processor]
+    program = ["-Os", "-I", ROOT / "include", ROOT / "bench/device/reopening.c", ROOT / ("release/fitrec-%s.o" % processor)]
+    run(*LINKERS[processor], *program, *words, "-o", work / "reopening")
+    said = run(*board, "-icount", "shift=0", "-semihosting-config", "enable=on,target=native", "-kernel", work / "reopening")
+    return tuple(int(it) for it in re.search(r"over (\d+) bytes: (\d+) thousand", said).groups())
+
+
 def figures(work):
     crate = kept.tree_of(work / "tree", ["fit_device"]) / "fit_device"
     if kept.static_library(crate, shutil.which("rt")):
@@ -36,3 +51,6 @@ def figures(work):
         sizes = [code_of(work, processor, it) / 1000 for it in (RECORDING, BY_WINDOWS, ALL)] if shutil.which(compiler) else None
         figure = "%.1f; %.1f; %.1f KB" % tuple(sizes) if sizes else "not here: " + compiler
         yield "code of recording; with all by windows; of all calls: " + processor, figure
+        emulator = boards.BOARDS[processor][1][0]
+        figure = "%d bytes; %d thousand" % instructions_of(work, processor) if shutil.which(compiler) and shutil.which(emulator) else "not here: " + emulator
+        yield "a boot that finds a ride of three hours, instructions: " + processor, figure

@@ -47,6 +47,15 @@ def compiled(work, name, source, *words):
     return work / source
 
 
+def python_package(work, bench):
+    """What finds the Python package, over the shared library of what is proved."""
+    crate = kept.tree_of(work / "tree", ["fit_c"]) / "fit_c"
+    if kept.static_library(crate, shutil.which("rt")):
+        sys.exit(bench + ": fit_c was not built")
+    run(ROOT / "build-shared", work, crate / "out/libfit_c.a")
+    return os.environ | {"FITREC_LIBRARY": str(work / "libfitrec.so"), "PYTHONPATH": str(ROOT / "python")}
+
+
 def launched():
     """The program, proved and built if it is not there yet."""
     run(ROOT / "fitrec", "version", env=os.environ | {"FITREC_BUILD": "1"})

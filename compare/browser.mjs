@@ -1,7 +1,9 @@
 #!/usr/bin/env node
-// Opens the page in headless Chromium, which is driven by its own protocol, and answers what it shows.
+// Opens the page in a headless browser, and answers what it shows.
 //
-//     browser.mjs PAGE FOLDER    reads a list of visits from standard input, and writes a list of answers
+//     browser.mjs BROWSER PAGE FOLDER    reads a list of visits from standard input, and writes a list of answers
+//
+// BROWSER is chromium, firefox or webkit: tools/BROWSER.mjs drives it.
 //
 // A visit has `width`, `dark`, `languages` (such as "de-CH"), `zone` (such as "Europe/Berlin"), `touch`, `print`, `unread` (from which byte
 // on activity.fit cannot be read), `address` (of the page, if it is not the file PAGE), and `steps`. A step is one of
@@ -16,44 +18,25 @@
 //     { screenshot }      a path
 //     { removed }         paths of files or folders, which are removed as if a card was pulled out
 //     { wait }            milliseconds
-//     { installed }       what keeps it from being installed as an app
+//     { installed }       what keeps it from being installed as an app, which Chromium alone says
 //     { reload }          opens it anew, without a network
 //
 // Where a ride is asked for, it waits for the answer. An answer has what the page shows after each step, what each step made (the value of
 // an expression, the path of a download), each request, and each line that the browser logged.
 
-import { spawn } from 'node:child_process';
-import { mkdtempSync, readFileSync, readdirSync, rmSync, writeFileSync } from 'node:fs';
+import { mkdtempSync, readFileSync, readdirSync, rmSync, statSync, writeFileSync } from 'node:fs';
 import { join } from 'node:path';
 
-const [page, folder] = process.argv.slice(2);
-const profile = '--user-data-dir=' + join(folder, 'profile');
-const words = ['--headless=new', '--no-sandbox', '--disable-gpu', '--remote-debugging-pipe', profile, 'about:blank'];
-const browser = spawn('chromium', words, { stdio: ['ignore', 'ignore', 'ignore', 'pipe', 'pipe'] });
-const waiting = new Map(), listeners = [];
-let received = '', sent = 0;
-browser.stdio[4].on('data', data => {
-  received += data;
-  for (let end; (end = received.indexOf('\0')) >= 0;) {
-    const message = JSON.parse(received.slice(0, end));
-    received = received.slice(end + 1);
-    if (message.id) waiting.get(message.id)(message);
-    else listeners.forEach(it => it(message));
-  }
-});
+const [name, page, folder] = process.argv.slice(2);
+const browser = await (await import(`./tools/${name}.mjs`)).start(folder);
 
-function send(method, params = {}, sessionId) {
-  return new Promise((done, fail) => {
-    waiting.set(++sent, message => message.error ? fail(new Error(method + ': ' + message.error.message)) : done(message.result));
-    browser.stdio[3].write(JSON.stringify({ id: sent, method, params, sessionId }) + '\0');
-  });
-}
+const pause = milliseconds => new Promise(done => setTimeout(done, milliseconds));
 
 async function until(holds) {
   for (let tries = 0; tries < 3000; tries++) {
     const found = await holds();
     if (found) return found;
-    await new Promise(done => setTimeout(done, 10));
+    await pause(10);
   }
   throw new Error('waited too long');
 }
@@ -66,7 +49,7 @@ const SHOWN = `(() => {
     || (it.labels && it.labels[0] || {}).innerText || '';
   return { heading: text('heading'), reason: text('reason'), next: text('next'), focus: document.activeElement.id,
     list: all('#rides tbody tr', row => [...row.cells].map(it => it.innerText)), listHeading: text('listHeading'),
-    numbers: Object.fromEntries(all('dl > div', it => [it.children[0].innerText, it.children[1].innerText])),
+    numbers: Object.fromEntries(all('dl > div', it => [it.children[0].innerText, [...it.children].slice(1).map(own => own.innerText).join(' ')])),
     pictures: all('figure', it => it.querySelector('figcaption strong').innerText),
     captions: Object.fromEntries(all('figure.chart figcaption', it => [it.children[0].innerText, it.children[1].innerText])),
     labels: all('svg', it => it.getAttribute('aria-label')), notes: all('.note', it => it.innerText),
@@ -74,7 +57,8 @@ const SHOWN = `(() => {
       line: it.querySelector('.curve').getAttribute('d'), bars: it.querySelector('.bars').getAttribute('d'),
       ...it.querySelector('svg').dataset }])),
     laps: all('#laps tr', row => [...row.cells].map(it => it.innerText)), offers: all('#offers button', it => it.innerText),
-    values: all('.values span', it => it.innerText),
+    details: all('#details li', it => it.textContent).join(' '), where: text('where'), taken: text('taken'),
+    values: all('.values > span', it => it.innerText),
     download: document.getElementById('save').hidden ? '' : document.getElementById('save').download,
     unnamed: named.filter(it => !nameOf(it).trim()).length, wide: document.documentElement.scrollWidth > innerWidth };
 })()`;
@@ -93,145 +77,88 @@ const unreadFrom = place => `(() => {
   };
 })()`;
 
-const KEYS = { Tab: 9, Enter: 13, ' ': 32, ArrowLeft: 37, ArrowUp: 38, ArrowRight: 39, ArrowDown: 40, End: 35, Home: 36 };
+const IS_OPEN = 'document.readyState === "complete" && document.title !== "fitrec"';
+const IS_ANSWERED = `!document.body.classList.contains('busy') && ['result', 'list'].some(id => !document.getElementById(id).hidden)`;
+const WINDOW = { width: 1280, height: 900, dark: false, languages: 'en-US', zone: 'UTC', touch: false, print: false };
 
-class Visit {
-  constructor(sessionId) {
-    this.requests = [];
-    this.logged = [];
-    this.call = (method, params) => send(method, params, sessionId);
-    listeners.push(({ sessionId: from, method, params }) => {
-      if (from !== sessionId) return;
-      if (method === 'Network.requestWillBeSent') this.requests.push(params.request.url.replace(/^(blob|data):.*/, '$1:'));
-      if (method === 'Log.entryAdded') this.logged.push(params.entry.text);
-      if (method === 'Runtime.exceptionThrown') this.logged.push(JSON.stringify(params.exceptionDetails));
-    });
-  }
+const click = (tab, selector) => tab.evaluate(`document.querySelector(${JSON.stringify(selector)}).click()`);
 
-  async evaluate(expression) {
-    const { result, exceptionDetails } = await this.call('Runtime.evaluate', { expression, awaitPromise: true, returnByValue: true });
-    if (exceptionDetails) throw new Error(expression.slice(0, 200) + ': ' + (exceptionDetails.exception || {}).description);
-    return result.value;
-  }
-
-  async open({ width = 1280, dark = false, languages = 'en-US', zone = 'UTC', touch = false, print = false, unread, address }) {
-    for (const part of ['Page', 'DOM', 'Runtime', 'Network', 'Log']) await this.call(part + '.enable');
-    this.width = width;
-    await this.call('Emulation.setDeviceMetricsOverride', { width, height: 900, deviceScaleFactor: 1, mobile: touch });
-    if (touch) await this.call('Emulation.setTouchEmulationEnabled', { enabled: true });
-    const features = [{ name: 'prefers-color-scheme', value: dark ? 'dark' : 'light' }];
-    await this.call('Emulation.setEmulatedMedia', { media: print ? 'print' : '', features });
-    await this.call('Emulation.setTimezoneOverride', { timezoneId: zone });
-    await this.call('Emulation.setUserAgentOverride', { userAgent: await this.evaluate('navigator.userAgent'), acceptLanguage: languages });
-    await this.call('Page.navigate', { url: address || 'file://' + page });
-    await until(() => this.evaluate('document.readyState === "complete" && document.title !== "fitrec"'));
-    if (unread) await this.evaluate(unreadFrom(unread));
-  }
-
-  async placeOf(selector, across = 50, down = 50) {
-    return this.evaluate(`(() => {
-      const it = document.querySelector(${JSON.stringify(selector)});
-      it.scrollIntoView({ block: 'center' });
-      const { left, top, width, height } = it.getBoundingClientRect();
-      return { x: left + width * ${across} / 100, y: top + height * ${down} / 100 };
-    })()`);
-  }
-
-  async click(selector) {
-    await this.evaluate(`document.querySelector(${JSON.stringify(selector)}).click()`);
-  }
-
-  async press(key) {
-    const it = { key, code: key === ' ' ? 'Space' : key, windowsVirtualKeyCode: KEYS[key], text: { Enter: '\r', ' ': ' ' }[key] };
-    await this.call('Input.dispatchKeyEvent', { type: 'keyDown', ...it });
-    await this.call('Input.dispatchKeyEvent', { type: 'keyUp', ...it });
-  }
-
-  async choose(files, drop) {
-    if (drop) {
-      const data = { items: [], files, dragOperationsMask: 1 };
-      for (const type of ['dragEnter', 'dragOver', 'drop']) await this.call('Input.dispatchDragEvent', { type, x: 100, y: 100, data });
-    } else {
-      const { root } = await this.call('DOM.getDocument');
-      const { nodeId } = await this.call('DOM.querySelector', { nodeId: root.nodeId, selector: '#files' });
-      await this.call('DOM.setFileInputFiles', { nodeId, files });
-    }
-  }
-
-  async answered() {
-    const isShown = `!document.body.classList.contains('busy') && ['result', 'list'].some(it => !document.getElementById(it).hidden)`;
-    await until(() => this.evaluate(isShown));
-  }
-
-  // Does a step, and answers what it made, if anything.
-  async step({ files, drop, click, keys, point, touchAt, evaluate, download, screenshot, removed, wait, installed, reload }) {
-    if (files) {
-      const begun = Date.now();
-      await this.choose(files, drop);
-      await new Promise(done => setTimeout(done, 20));
-      await this.answered();
-      return Date.now() - begun;
-    }
-    if (click) {
-      await this.click(click);
-      await new Promise(done => setTimeout(done, 20));
-      return this.answered();
-    }
-    if (keys) {
-      for (const it of keys) await this.press(it);
-      return undefined;
-    }
-    if (point) return this.call('Input.dispatchMouseEvent', { type: 'mouseMoved', ...await this.placeOf(...point) });
-    if (touchAt) {
-      const touchPoints = [await this.placeOf(...touchAt)];
-      await this.call('Input.dispatchTouchEvent', { type: 'touchStart', touchPoints });
-      return this.call('Input.dispatchTouchEvent', { type: 'touchEnd', touchPoints: [] });
-    }
-    if (download) {
-      const to = mkdtempSync(join(folder, 'down-'));
-      await send('Browser.setDownloadBehavior', { behavior: 'allow', downloadPath: to });
-      if (download === 'Enter') await this.press('Enter'); else await this.click(download);
-      const name = await until(() => readdirSync(to).find(it => !it.endsWith('.crdownload')));
-      return join(to, name);
-    }
-    if (screenshot) {
-      await this.evaluate('scrollTo(0, 0)');
-      const { data } = await this.call('Page.captureScreenshot', { captureBeyondViewport: true, clip: {
-        x: 0, y: 0, width: this.width, height: await this.evaluate('document.documentElement.scrollHeight'), scale: 1 } });
-      return writeFileSync(screenshot, Buffer.from(data, 'base64'));
-    }
-    if (installed) return (await this.call('Page.getInstallabilityErrors')).installabilityErrors.map(it => it.errorId);
-    if (reload) {
-      await this.call('Network.emulateNetworkConditions', { offline: true, latency: 0, downloadThroughput: -1, uploadThroughput: -1 });
-      await this.evaluate('document.title = "fitrec"');
-      await this.call('Page.reload');
-      return until(() => this.evaluate('document.readyState === "complete" && document.title !== "fitrec"').catch(() => false));
-    }
-    if (removed) return removed.forEach(it => rmSync(it, { recursive: true }));
-    if (wait) return new Promise(done => setTimeout(done, wait));
-    return this.evaluate(evaluate);
-  }
+function placeOf(tab, [selector, across = 50, down = 50]) {
+  return tab.evaluate(`(() => {
+    const element = document.querySelector(${JSON.stringify(selector)});
+    element.scrollIntoView({ block: 'center' });
+    const { left, top, width, height } = element.getBoundingClientRect();
+    return { x: left + width * ${across} / 100, y: top + height * ${down} / 100 };
+  })()`);
 }
 
-async function visited(asked) {
-  const { targetId } = await send('Target.createTarget', { url: 'about:blank' });
-  const { sessionId } = await send('Target.attachToTarget', { targetId, flatten: true });
-  const visit = new Visit(sessionId), made = [], shown = [];
+// A browser writes under another name, or nothing, until all is there.
+function downloadedTo(to) {
+  const names = readdirSync(to), isThere = names.length === 1 && !/\.(crdownload|part)$/.test(names[0]) && statSync(join(to, names[0])).size;
+  return isThere && join(to, names[0]);
+}
+
+// What each step does. It answers what it made, if anything.
+const STEPS = {
+  async files(tab, files, { drop }) {
+    const begun = Date.now();
+    await (drop ? tab.drop(files) : tab.choose(files));
+    await pause(20);
+    await until(() => tab.evaluate(IS_ANSWERED));
+    return Date.now() - begun;
+  },
+  async click(tab, selector) {
+    await click(tab, selector);
+    await pause(20);
+    await until(() => tab.evaluate(IS_ANSWERED));
+  },
+  async keys(tab, keys) {
+    for (const key of keys) await tab.press(key);
+  },
+  point: async (tab, where) => { await tab.point(await placeOf(tab, where)); },
+  touchAt: async (tab, where) => { await tab.touch(await placeOf(tab, where)); },
+  evaluate: (tab, expression) => tab.evaluate(expression),
+  async download(tab, by) {
+    const to = mkdtempSync(join(folder, 'down-'));
+    await tab.downloadTo(to);
+    await (by === 'Enter' ? tab.press(by) : click(tab, by));
+    if (tab.downloaded) await tab.downloaded();
+    return until(() => downloadedTo(to));
+  },
+  async screenshot(tab, path) {
+    await tab.evaluate('scrollTo(0, 0)');
+    writeFileSync(path, Buffer.from(await tab.picture(), 'base64'));
+  },
+  removed: (tab, paths) => paths.forEach(path => rmSync(path, { recursive: true })),
+  wait: (tab, milliseconds) => pause(milliseconds),
+  installed: tab => tab.installed(),
+  async reload(tab) {
+    await tab.disconnect();
+    await tab.evaluate('document.title = "fitrec"');
+    await tab.reload();
+    await until(() => tab.evaluate(IS_OPEN).catch(() => false));
+  },
+};
+
+async function visited({ steps, unread, address = 'file://' + page, ...how }) {
+  const tab = await browser.open({ ...WINDOW, ...how }), made = [], shown = [], failed = [];
   try {
-    await visit.open(asked);
-    for (const it of asked.steps) {
-      made.push(await visit.step(it) ?? null);
-      shown.push(await visit.evaluate(SHOWN));
+    await tab.go(address);
+    await until(() => tab.evaluate(IS_OPEN));
+    if (unread) await tab.evaluate(unreadFrom(unread));
+    for (const step of steps) {
+      const kind = Object.keys(step).find(key => key in STEPS);
+      made.push(await STEPS[kind](tab, step[kind], step) ?? null);
+      shown.push(await tab.evaluate(SHOWN));
     }
   } catch (error) {
-    visit.logged.push(String(error.stack));
+    failed.push(String(error.stack));
   }
-  await send('Target.closeTarget', { targetId });
-  return { made, shown, requests: visit.requests, logged: visit.logged };
+  await tab.close();
+  return { made, shown, requests: tab.requests, logged: [...tab.logged, ...failed] };
 }
 
 const answers = [];
-for (const it of JSON.parse(readFileSync(0, 'utf8'))) answers.push(await visited(it));
+for (const visit of JSON.parse(readFileSync(0, 'utf8'))) answers.push(await visited(visit));
 process.stdout.write(JSON.stringify(answers));
-await send('Browser.close').catch(() => {});
-browser.kill();
+await browser.end();

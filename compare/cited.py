@@ -1,11 +1,17 @@
-"""Checks that each file and each name that README and docs/ cite in backquotes exists."""
+"""Checks that each file and each name that README and docs/ cite in backquotes exists, that the map draws the crates as they are,
+and that the Makefile names what is there."""
 
 import re
+import subprocess
+import sys
 
 from tools.checks import differs
 from tools.program import ROOT
 
-NEEDS = ()
+sys.path.insert(0, str(ROOT))
+from kept import crates, used_by
+
+NEEDS = "make",
 
 PATH = re.compile(r"[\w.*-]+(?:/[\w.*-]+)+/?|[\w-]+\.(?:rt|antt|py|sh|md|edit|txt|c|h|fit|frj)")
 NAME = re.compile(r"\w+(?:(?:::|\.)\w+)*")
@@ -49,5 +55,43 @@ def of_pages(root):
         yield "what %s cites is there" % page.name, differs(lost, [])
 
 
+def all_below(name, used):
+    return set(used[name]).union(*(all_below(it, used) for it in used[name]))
+
+
+def drawn_in(text):
+    """Which crates each crate of the picture leads to: those below it in the tree, and those after its arrow."""
+    leads, path = {}, []
+    for line in re.findall(r"(?m)^    ((?:│  |   )*(?:├─ |└─ )?)(fit\w+) (.*)$", text):
+        depth, name, rest = len(line[0]) // 3, line[1], line[2]
+        leads[name] = re.findall(r"fit_\w+", rest.partition("→")[2])
+        path[depth:] = [name]
+        if depth:
+            leads[path[depth - 1]].append(name)
+    return leads
+
+
+def of_the_map(root):
+    lines = crates(root)
+    used = {name: used_by(name, lines) for name in lines if not name.endswith("_tests")}
+    direct = {name: sorted(it for it in used[name] if not any(it in all_below(other, used) for other in used[name])) for name in used}
+    drawn = {name: sorted(to) for name, to in drawn_in((root / "docs/ARCHITECTURE.md").read_text()).items()}
+    yield "the map draws each crate over those that it stands on", differs(drawn, direct)
+
+
+def of_the_makefile(root):
+    text = (root / "Makefile").read_text()
+    listed = run_at(root, ["make", "--no-print-directory"])
+    yield "make lists each target", differs(re.findall(r"(?m)^make (\w+)", listed), re.findall(r"(?m)^\.PHONY: list (.*)$", text)[0].split())
+    commands = re.findall(r"(?m)^\t(?:.* && )?(\.?[\w./-]+)", text)
+    yield "what the Makefile runs is there", differs([it for it in commands if "/" in it and not (root / it).is_file()], [])
+
+
+def run_at(root, words):
+    return subprocess.run(words, cwd=root, stdout=subprocess.PIPE, text=True, check=True).stdout
+
+
 def check(given):
     yield from given.checks(of_pages, ROOT)
+    yield from given.checks(of_the_map, ROOT)
+    yield from given.checks(of_the_makefile, ROOT)

@@ -4,15 +4,13 @@ and damaged, with every base type and size, both byte orders, compressed timesta
 import ctypes
 import datetime
 import fractions
-import os
 import pathlib
 import random
 import re
-import shutil
 import tempfile
 
 from tools import cells, profile_table, reader
-from tools.checks import Skipped, differs, unless
+from tools.checks import differs
 from tools.fit_files import damaged, made
 from tools.libraries import build
 from tools.library_calls import ANSWERS
@@ -174,30 +172,6 @@ def by_program(fitrec, source, message, fields, form):
     return difference or cells.table_differs(said[1], [head for _, head in names], table, data if len(data) < 4096 else source)
 
 
-def python_package(archive, given):
-    """The tests of the package, as pip installs it from its folder, if Debian's packages are there; and its columns of every type."""
-    python = "/usr/bin/python3"
-    for word in ("numpy", "pandas", "setuptools", "pip"):
-        if run(python, "-c", "import " + word)[0]:
-            yield "the Python package", Skipped("python3-" + word)
-            return
-    with tempfile.TemporaryDirectory() as folder:
-        tree, to = pathlib.Path(folder, "tree"), folder + "/to"
-        shutil.copytree(ROOT / "python", tree / "python")
-        shutil.copy(ROOT / "build-shared", tree)
-        (tree / "crates/fit_c/out").mkdir(parents=True)
-        shutil.copy(archive, tree / "crates/fit_c/out")
-        pip = "-m", "pip", "install", "--quiet", "--no-build-isolation", "--no-deps", "--no-index", "--target", to
-        status, _, errors = run(python, *pip, tree / "python")
-        yield "pip installs the folder of the Python package", differs(status, 0, errors[-2000:])
-        found = {"PATH": os.environ["PATH"], "PYTHONPATH": to, "PYTHONDONTWRITEBYTECODE": "1"}
-        status, _, errors = run(python, "-m", "unittest", "discover", "-s", ROOT / "python/tests", env=found)
-        yield "the tests of the Python package", differs(status, 0, errors[-2000:])
-        found["PYTHONPATH"] += ":%s" % (ROOT / "compare")
-        said = run(python, ROOT / "compare/tools/package.py", given.files // 5, given.seed, env=found)
-        yield "values by the package and the second reader", unless(re.fullmatch(r"same [1-9]\d*\n", said[1]), said, "the same values")
-
-
 def most_columns(calls, seed):
     one_more = calls.columns(made(random.Random(seed)), 20, [0] * 129, 0)[0]
     yield "128 columns and one more", differs((one_more, calls.columns(b"", 20, [0] * 128, 0)[0]), (23, 1))
@@ -241,6 +215,5 @@ def check(given):
         if not shared.exists():
             return
         calls = Library(shared)
-        yield from given.checks(python_package, archive, given)
         yield from given.checks(most_columns, calls, given.seed)
         yield from given.checks(made_files, given, calls)

@@ -4,43 +4,28 @@
      device cut SCRIPT FOLDER CALL SEED RULE
                                             over files in memory, whose power goes inside the call of this number (0: after the last,
                                             -1: not at all)
-     device flash SCRIPT FOLDER CALL SEED
-                                            over an area of flash, whose power goes inside the programming or erasing of this number; after
-                                            that the ride is recovered, as line 0, and its files are put into the folder
      device random SEED                     steps with handles of random bytes, each of which is to be refused
 
    A script is one of `fitrec replay`. Each answer is printed as that prints it. A ride is recovered, reopened or erased over whole files or
-   by windows, as SEED picks it, and by windows with the answer, the recorder and the calls that it has over whole files. After a power cut the folder gets what was left: of each byte that was written since the last sync of its file the old or the
-   new one or any other, by SEED, and a length between the least and the greatest since. RULE is 0, or the number of a rule of the header
-   that the host breaks:
+   by windows, as SEED picks it, and by windows with the answer, the recorder and the calls that it has over whole files. After a power cut the
+   folder gets what was left. RULE is 0, or the number of a rule of the header that the host breaks:
 
      1 a call of each plan is left out    2 the calls of each plan in reverse      3 the answer comes before the calls are carried out
      4 it goes on after the call of this number failed
      5 a sync returns before anything is kept */
 
+#include "../examples/device/faulty.h"
 #include "../examples/device/files.h"
-#include "../examples/device/flash.h"
 #include <inttypes.h>
-#include <setjmp.h>
 #include <stdio.h>
 #include <stdlib.h>
 #include <string.h>
 
-#ifndef MOST
-#define MOST (1 << 22)
-#endif
-
 enum { GUARD = 64 };
 
-/* A file in memory: what reads give, what the last sync kept, and which bytes were written since. */
-struct memory_file {
-    uint8_t now[MOST], kept[MOST], written[MOST];
-    size_t len, kept_len, least, greatest;
-};
-
-static struct memory_file memory[2];
-static struct files files;
-static int in_memory, in_flash, rule;
+static struct faulty_disk disk;
+static struct fitrec_device files;
+static int in_memory, rule;
 static long left = -1; /* calls before the power goes, or -1 */
 static const char *folder;
 /* What the memory of the recorder held before a start or a reopening. */
@@ -62,36 +47,8 @@ static void fail(const char *why) {
     exit(2);
 }
 
-static uint64_t chance_state;
-
 static uint32_t chance(uint32_t below) {
-    chance_state = chance_state * 6364136223846793005u + 1442695040888963407u;
-    return (uint32_t)(chance_state >> 33) % below;
-}
-
-static uint8_t flash_bytes[FLASH_BLOCKS * FLASH_BLOCK];
-const uint8_t *const flash_area = flash_bytes;
-static struct flash_files in_area;
-static jmp_buf restart;
-
-/* Programs bytes, or only some of their bits if the power goes. */
-void flash_program(uint32_t at, const void *bytes, uint32_t count) {
-    int goes = left > 0 && --left == 0;
-    for (uint32_t k = 0; k < count; k++) {
-        if (flash_bytes[at + k] != 0xFF)
-            fail("a byte of flash was programmed twice");
-        flash_bytes[at + k] &= ((const uint8_t *)bytes)[k] | (goes ? chance(256) : 0);
-    }
-    if (goes)
-        longjmp(restart, 1);
-}
-
-void flash_erase(uint32_t block) {
-    int goes = left > 0 && --left == 0;
-    for (uint32_t k = 0; k < FLASH_BLOCK; k++)
-        flash_bytes[block * FLASH_BLOCK + k] |= goes ? (uint8_t)chance(256) : 0xFF;
-    if (goes)
-        longjmp(restart, 1);
+    return faulty_chance(&disk, below);
 }
 
 static void keep_file(const char *name, const uint8_t *bytes, size_t len) {
@@ -107,7 +64,7 @@ static size_t read_file(const char *name, uint8_t *to) {
     char path[4096];
     snprintf(path, sizeof path, "%s/%s", folder, name);
     FILE *file = fopen(path, "rb");
-    size_t len = file ? fread(to, 1, MOST, file) : 0;
+    size_t len = file ? fread(to, 1, FAULTY_MOST, file) : 0;
     if (file)
         fclose(file);
     return len;
@@ -118,52 +75,23 @@ static void fill_at_random(uint8_t *bytes, size_t count) {
         bytes[--count] = (uint8_t)chance(256);
 }
 
-/* What a power cut leaves of a file. */
-static void keep_rest(struct memory_file *it, const char *name) {
-    static uint8_t rest[MOST];
-    size_t len = it->least + chance((uint32_t)(it->greatest - it->least + 1));
-    for (size_t at = 0; at < len; at++) {
-        uint8_t old = at < it->kept_len ? it->kept[at] : 0, any[] = {old, it->now[at], (uint8_t)chance(256)};
-        rest[at] = it->written[at] || at >= it->kept_len ? any[chance(3)] : old;
-    }
-    keep_file(name, rest, len);
-}
-
 static void power_goes(void) {
-    keep_rest(&memory[0], "activity.fit");
-    keep_rest(&memory[1], "activity.frj");
+    disk.is_dark = 1;
+    faulty_restart(&disk);
+    for (int k = 0; k < 2; k++)
+        keep_file(k ? "activity.frj" : "activity.fit", disk.files[k].now, disk.files[k].len);
     exit(0);
 }
 
-static void keep_all(struct memory_file *it) {
-    memcpy(it->kept, it->now, it->len);
-    memset(it->written, 0, it->greatest);
-    it->kept_len = it->least = it->greatest = it->len;
-}
-
-static void find(struct memory_file *it, const char *name) {
-    it->len = it->greatest = read_file(name, it->now);
-    keep_all(it);
-}
-
-static void do_in_memory(const struct fitrec_call *call) {
-    struct memory_file *it = &memory[call->file];
-    size_t end = call->at + call->count;
+static void carry_out(const struct fitrec_call *call) {
+    void *file = files.files[call->file];
     if (rule == 4 && left > 0 && --left == 0)
         return;
-    if (end > MOST || (call->at > it->len && !rule))
+    if (call->kind == FITREC_WRITE ? files.write(file, (uint32_t)call->at, room.plan.bytes + call->start, call->count) != call->count
+        : call->kind == FITREC_CUT ? files.cut(file, (uint32_t)call->at) : rule != 5 && files.sync(file))
+        fail("cannot carry out a call");
+    if (disk.is_misused && !rule)
         fail("a call outside its file");
-    if (call->kind == FITREC_WRITE) {
-        memcpy(it->now + call->at, room.plan.bytes + call->start, call->count);
-        memset(it->written + call->at, 1, call->count);
-        it->len = end > it->len ? end : it->len;
-        it->greatest = it->len > it->greatest ? it->len : it->greatest;
-    } else if (call->kind == FITREC_CUT) {
-        it->len = call->at;
-        it->least = it->len < it->least ? it->len : it->least;
-    } else if (rule != 5) {
-        keep_all(it);
-    }
     /* The power goes once the call has begun, and has been done in part. */
     if (rule != 4 && left > 0 && --left == 0)
         power_goes();
@@ -174,21 +102,11 @@ static void carry_out_plan(void) {
     struct fitrec_plan *plan = &room.plan;
     if (plan->count > FITREC_MOST_CALLS || plan->used > FITREC_MOST_BYTES)
         fail("a plan that is too long");
-    if (in_flash) {
-        if (flash_carry_out(&in_area, plan))
-            fail("no room in flash");
-        return;
-    }
-    if (!in_memory) {
-        if (carry_out(&files, plan))
-            fail("cannot carry out a call");
-        return;
-    }
     for (uint32_t k = 0; k < plan->count; k++) {
         uint32_t at = rule == 2 ? plan->count - 1 - k : k;
         if (rule == 1 && plan->count > 1 && k == chance(plan->count))
             continue;
-        do_in_memory(&plan->calls[at]);
+        carry_out(&plan->calls[at]);
     }
 }
 
@@ -225,14 +143,10 @@ static uint8_t hand_sample(uint32_t time, char *rest) {
 
 /* A step that reads both files in place. */
 static uint8_t step_over_files(const char *word) {
-    static uint8_t read[2][MOST];
-    const uint8_t *bytes[2] = {memory[0].now, memory[1].now};
-    size_t len[2] = {memory[0].len, memory[1].len};
-    if (in_flash) {
-        bytes[0] = flash_area, bytes[1] = in_area.journal;
-        len[0] = in_area.len, len[1] = in_area.journal_len;
-    }
-    for (int k = 0; !in_memory && !in_flash && k < 2; k++) {
+    static uint8_t read[2][FAULTY_MOST];
+    const uint8_t *bytes[2] = {disk.files[0].now, disk.files[1].now};
+    size_t len[2] = {disk.files[0].len, disk.files[1].len};
+    for (int k = 0; !in_memory && k < 2; k++) {
         len[k] = read_file(k ? "activity.frj" : "activity.fit", read[k]);
         bytes[k] = read[k];
     }
@@ -241,8 +155,8 @@ static uint8_t step_over_files(const char *word) {
     return fitrec_reopen(&room.recorder, bytes[0], len[0], bytes[1], len[1], &room.plan);
 }
 
-static uint64_t size_of_data(void) {
-    return in_flash ? in_area.len : in_memory ? memory[0].len : (uint64_t)file_size(&files, FITREC_DATA_FILE);
+static uint64_t size_of(int file) {
+    return (uint64_t)files.size(files.files[file]);
 }
 
 /* Fills the window that the recovery asks for. The rest of it gets any byte. */
@@ -251,17 +165,10 @@ static void fill_window(void) {
     if (it->file > FITREC_JOURNAL_FILE || it->count > sizeof it->window)
         fail("a window that is none");
     memset(it->window, (int)chance(256), sizeof it->window);
-    if (in_flash) {
-        flash_read_window(&in_area, it);
-    } else if (in_memory) {
-        const struct memory_file *file = &memory[it->file];
-        size_t left = it->at < file->len ? file->len - it->at : 0;
-        it->filled = left < it->count ? (uint16_t)left : it->count;
-        if (left)
-            memcpy(it->window, file->now + it->at, it->filled);
-    } else if (read_window(&files, it)) {
+    int32_t filled = files.read(files.files[it->file], (uint32_t)it->at, it->window, it->count);
+    if (filled < 0)
         fail("cannot read a window");
-    }
+    it->filled = (uint16_t)filled;
 }
 
 /* Gives the window to the call of a line. */
@@ -336,8 +243,8 @@ static void check_mark(const void *whole, size_t size, const char *mark) {
 static uint8_t step_by_windows(const char *word) {
     struct fitrec_recovery *it = &room.recovery;
     memset(it, 0, sizeof *it);
-    it->data_size = size_of_data();
-    it->journal_size = in_flash ? in_area.journal_len : in_memory ? memory[1].len : (uint64_t)file_size(&files, FITREC_JOURNAL_FILE);
+    it->data_size = size_of(FITREC_DATA_FILE);
+    it->journal_size = size_of(FITREC_JOURNAL_FILE);
     uint8_t answer = fitrec_recover_begin(it, &room.plan);
     check_mark(it, sizeof *it, "fitw");
     for (uint32_t most = 2; answer == FITREC_NEEDS_WINDOW; most = 0) {
@@ -367,7 +274,7 @@ static uint8_t step_by_windows(const char *word) {
 /* A start with a sport that is none leaves the recorder, and plans nothing. */
 static void start_without_a_sport(void) {
     struct fitrec_recorder before = room.recorder;
-    if (fitrec_start(&room.recorder, (size_t)size_of_data(), 1000000000, 7, 3 + (uint8_t)chance(253), &room.plan) != FITREC_NO_SPORT || room.plan.count)
+    if (fitrec_start(&room.recorder, (size_t)size_of(FITREC_DATA_FILE), 1000000000, 7, 3 + (uint8_t)chance(253), &room.plan) != FITREC_NO_SPORT || room.plan.count)
         fail("a start with a sport that is none");
     if (memcmp(&before, &room.recorder, sizeof before))
         fail("a start with a sport that is none changed the recorder");
@@ -390,7 +297,7 @@ static uint8_t step(char *line, char word[16]) {
     if (strstr("recover reopen erase", word)) return is_by_windows ? step_by_windows(word) : step_over_files(word);
     if (!strcmp(word, "start")) {
         sscanf(line, "%*s %*u %llu %15s", &serial, sport);
-        return fitrec_start(recorder, (size_t)size_of_data(), (uint32_t)time, (uint32_t)serial, sport[0] == 'g' ? 0 : sport[0] == 'r' ? 1 : 2, &room.plan);
+        return fitrec_start(recorder, (size_t)size_of(FITREC_DATA_FILE), (uint32_t)time, (uint32_t)serial, sport[0] == 'g' ? 0 : sport[0] == 'r' ? 1 : 2, &room.plan);
     }
     if (!strcmp(word, "sample")) return hand_sample((uint32_t)time, line + used);
     if (!strcmp(word, "lap")) return fitrec_add_lap(recorder, (uint32_t)time, &room.plan);
@@ -510,37 +417,10 @@ static void refuse_random(void) {
     printf("ok\n");
 }
 
-/* A ride in flash, whose power goes twice: once in the ride and once after the restart. Then it is recovered. */
-static void play_in_flash(const char *script) {
-    static long cuts[3];
-    static int at;
-    cuts[0] = left, cuts[1] = 1 + chance(8), cuts[2] = 0;
-    memset(flash_bytes, 0xFF, sizeof flash_bytes);
-    int restarted = setjmp(restart);
-    at += restarted;
-    left = cuts[at];
-    flash_find(&in_area);
-    if (!restarted) {
-        play(script);
-    } else if (in_area.len > 0) {
-        char recovering[] = "recover\n", word[16];
-        uint8_t answer = step(recovering, word);
-        carry_out_plan();
-        report(0, word, answer);
-    }
-    left = -1;
-    static uint8_t whole[FLASH_DATA * FLASH_BLOCK];
-    memcpy(whole, flash_area, in_area.len);
-    if (in_area.is_closed)
-        memcpy(whole, in_area.header, FLASH_HEADER);
-    keep_file("activity.fit", whole, in_area.len);
-    keep_file("activity.frj", in_area.journal, in_area.journal_len);
-}
-
 int main(int count, char **words) {
     memset(&room, 0xA5, sizeof room);
     if (count > 2 && !strcmp(words[1], "random")) {
-        chance_state = strtoull(words[2], NULL, 10);
+        disk.seed = strtoull(words[2], NULL, 10);
         refuse_random();
         check_guards();
         return 0;
@@ -549,31 +429,25 @@ int main(int count, char **words) {
         fail("words are missing");
     folder = words[3];
     in_memory = !strcmp(words[1], "cut");
-    in_flash = !strcmp(words[1], "flash");
-    if (in_flash) {
-        left = strtol(words[4], NULL, 10);
-        chance_state = strtoull(words[5], NULL, 10);
-        play_in_flash(words[2]);
-        return 0;
-    }
     if (in_memory) {
+        static uint8_t found[FAULTY_MOST];
+        faulty_begin(&disk, &files);
         left = strtol(words[4], NULL, 10);
-        chance_state = strtoull(words[5], NULL, 10);
+        disk.seed = strtoull(words[5], NULL, 10);
         rule = atoi(words[6]);
-        find(&memory[0], "activity.fit");
-        find(&memory[1], "activity.frj");
+        for (int k = 0; k < 2; k++)
+            faulty_hold(&disk.files[k], found, (uint32_t)read_file(k ? "activity.frj" : "activity.fit", found));
     } else {
-        chance_state = strtoull(words[4], NULL, 10);
+        disk.seed = strtoull(words[4], NULL, 10);
         if (open_files(&files, folder))
             fail("cannot open the files");
     }
     play(words[2]);
     check_guards();
     if (in_memory) {
-        if (left < 0) {
-            keep_all(&memory[0]);
-            keep_all(&memory[1]);
-        }
+        for (int k = 0; left < 0 && k < 2; k++)
+            if (files.sync(files.files[k]))
+                fail("cannot carry out a call");
         power_goes();
     }
     return 0;

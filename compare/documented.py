@@ -21,7 +21,9 @@ KIT = re.compile(r"rt ")
 # The enums whose names the program prints.
 FAULTS = {"fit_grammar/src/file/fault.rt": "FaultKind", "fit_grammar/src/plain/fault.rt": "PlainFaultKind",
           "fit_activity/src/activity.rt": "ActivityFault", "fit_activity/src/recording/refusal.rt": "Refusal",
-          "fit_recorder/src/fault.rt": "RecFault", "fit_scripts/src/script/fault.rt": "ScriptFaultKind"}
+          "fit_recorder/src/fault.rt": "RecFault", "fit_scripts/src/script/fault.rt": "ScriptFaultKind", "fit_joining/src/misfit.rt": "MisfitKind"}
+# What stands for a word of a command that is shown by its kind.
+FILLED = {"HEX": "A5", "SECONDS": "10", "TIME": "2026-05-01T08:00:00Z", "NAMES": "heart_rate", "NAME": "record"}
 # What else it reports: for the command line, for a replay, and for a script that can only be simulated.
 OTHERS = {"NoRecorder", "OnlySimulate"}
 # Lines on standard error with status 0.
@@ -71,6 +73,8 @@ class Scratch:
         run(fitrec, "replay", self.folder / "ride", self.folder / "FOLDER")
         for name in ("FILE", "IN"):
             run(fitrec, "save", self.folder / "FOLDER", self.folder / name)
+        # The part of an activity that comes a day after the one in IN.
+        run(fitrec, "shift", "--by", "86400", self.folder / "IN", self.folder / "IN..")
         (self.folder / "activity.fit").write_bytes(holds(self.folder / "FOLDER")[0])
 
     def shell(self, lines):
@@ -132,7 +136,10 @@ def forms(command):
     """Yields the words of a command, with each choice of its options."""
     parts = [["", part[1:-1]] if part.startswith("[") else [part] for part in re.findall(r"\[[^]]*\]|\S+", command)]
     for choice in itertools.product(*parts):
-        yield " ".join(choice).replace("HEX", "A5").replace("SECONDS", "10").replace("NAMES", "heart_rate").replace("NAME", "record").split()[1:]
+        line = " ".join(choice)
+        for word, value in FILLED.items():
+            line = line.replace(word, value)
+        yield line.split()[1:]
 
 
 def cited_commands(fitrec, name, text):
@@ -226,12 +233,14 @@ def sizes():
         value = int(re.search(r"const %s: \w+ = ([\d_]+)" % name, page("crates/" + file))[1])
         for it in names:
             yield "%s in docs/%s.md" % (name, it), differs("{:,}".format(value) in page("docs/%s.md" % it), True)
-    names = int(re.search(r"const NAMES: u32 = (\d+)", page("crates/fit_commands/src/beside.rt"))[1])
+    names = int(re.search(r"const NAMES: u32 = (\d+)", page("crates/fit_places/src/replacing.rt"))[1])
     stated = re.search(r"the next free number up to (\d+)", page("docs/PROGRAM.md"))
     yield "the names beside OUT in docs/PROGRAM.md", differs(stated and int(stated[1]), names - 1)
     for name, about in re.findall(r"`release/(\w+\.a)` [^.]*?some (\d+) KB", page("docs/EMBEDDING.md")):
         size = (ROOT / "release" / name).stat().st_size
         yield "the size of " + name, unless(abs(size / 1000 - int(about)) < 3, size, "about %s KB" % about)
+    stated = re.search(r"`include/fitrec_device.h` declares all of it, in (\d+) lines", page("docs/EMBEDDING.md"))
+    yield "the lines of include/fitrec_device.h", differs(stated and int(stated[1]), page("include/fitrec_device.h").count("\n"))
     for file, lines in re.findall(r"`(examples/device/\w+\.c)`\s[^`]*?of (\d+)\b", page("docs/EMBEDDING.md")):
         yield "the lines of " + file, unless(
             abs(page(file).count("\n") - int(lines)) <= 5, page(file).count("\n"), "%s and 5 more or less" % lines)
@@ -250,11 +259,13 @@ def structs():
     yield "the structs of docs/EMBEDDING.md", differs(stated, {it: "{:,}".format(size) for it, size in found.items()})
     whole = "The other RAM is {:,} bytes: handle {:,}, plan {:,}, a recovery by windows {:,}.".format(sum(found.values()), *found.values())
     yield "their sum in docs/EMBEDDING.md", differs(whole in text.replace("\n", " "), True)
+    session = "static struct fitrec_session session; /* {:,} bytes on 32 bits".format(sum(found.values()) + 80)
+    yield "the session of docs/EMBEDDING.md", differs(session in text, True)
     row = "| {:,}; {:,}; {:,} bytes |".format(*found.values())
     yield "the structs of docs/PERFORMANCE.md", differs(row in page("docs/PERFORMANCE.md"), True)
     short = "The recorder takes %.1f KB, a plan %.1f KB;" % (found["recorder"] / 1000, found["plan"] / 1000)
     yield "the structs of README.md", differs(short in page("README.md"), True)
-    calls = re.findall(r"^uint8_t fitrec_\w+\(", page("include/fitrec.h").partition("/* A recorder in a device.")[2], re.M)
+    calls = re.findall(r"^FITREC_CHECKED uint8_t fitrec_\w+\(", page("include/fitrec_device.h"), re.M)
     yield "the calls for a device in docs/EMBEDDING.md", differs((len(calls), "fifteen calls" in text), (15, True))
 
 

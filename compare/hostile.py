@@ -1,8 +1,9 @@
 """Checks what hostile files cost, by counts that do not depend on the machine: instructions, by valgrind, and bytes that are written.
-Each family of files is made in three sizes. What is added from one size to the next costs so many instructions and bytes of JSON for each
-byte that is read, at most, and not more for the second half than for the first."""
+Each family of files is made in three sizes. What is added from one size to the next costs so many instructions for each byte that is read,
+at most, and not more for the second half than for the first. The bytes that are written of it are bounded by the longest texts of the form."""
 
 import math
+import os
 import pathlib
 import re
 import tempfile
@@ -14,11 +15,30 @@ from tools.program import run
 
 NEEDS = ("fitrec", "valgrind")
 
-# The most instructions for each byte that a command reads. The most bytes of JSON: for each byte, and for the line of each message.
-INSTRUCTIONS = {"check": 600, "show --json": 1000, "show --json --profile": 1700, "table": 4000, "table --profile": 6000}
-WRITTEN, LINE = 60, 110
-# The most instructions for each byte of a table, which has up to 256 cells of a message of one byte.
-CELL = 150
+# The most instructions for each byte that a command reads.
+INSTRUCTIONS = {"check": 600, "check --each --json": 600, "show --json": 1000, "show --json --profile": 1700, "show --gpx": 1000,
+                "table": 4000, "table --profile": 6000}
+# The same for each byte that `show` writes: most of its text are names, which a byte can have it copy.
+OF_TEXT = 40
+# The longest line of a message without fields in JSON, with the longest name of the Profile and the time of a compressed timestamp.
+LINE = '{"number":268435455,"message":65535,"name":"exd_data_concept_configuration","fields":{"timestamp":"2021-09-08T01:46:40Z"},"developer":[]}\n'
+# The longest fields of one byte: a developer field by its bytes, and one whose name and units have as many control characters as the Profile
+# has bytes. A number of one byte with eight decimals in a cell of several.
+BY_ITS_BYTES = '{"index":255,"number":255,"bytes":"0xFF"},'
+DESCRIBED = '{"index":255,"number":255,"name":"%s","units":"%s","value":-127.99607843},' % (64 * r"\u0001", 16 * r"\u0001")
+DECIMAL = "-127.99607843|"
+# The line of a table of 128 columns and its end, with a date in the first one; with as many columns of developer fields.
+ROW, WIDE_ROW = (len("2021-09-08T01:46:40Z") + commas + len("\r\n") for commas in (127, 255))
+# The longest point for the bytes of its record: one with its time, eight for its position, and one for each sensor.
+POINT = ('<trkpt lat="-180.00000000" lon="-180.00000000"><time>2021-09-08T01:46:40Z</time><extensions><gpxtpx:TrackPointExtension>'
+         '<gpxtpx:atemp>-128</gpxtpx:atemp><gpxtpx:hr>255</gpxtpx:hr><gpxtpx:cad>255</gpxtpx:cad></gpxtpx:TrackPointExtension></extensions>'
+         '</trkpt>\n')
+POINT_SIZE = 12
+# The most bytes that are written: for each byte of the content of a message, and for each message. A file has one line in the JSON of `check`,
+# whose numbers grow.
+WRITTEN = {"check --each --json": (0, 0), "show --json": (len(BY_ITS_BYTES), len(LINE)), "show --json --profile": (len(DESCRIBED), len(LINE)),
+           "show --gpx": (len(POINT) / POINT_SIZE, len(POINT) / POINT_SIZE), "table": (len(DECIMAL), ROW),
+           "table --profile": (len(DECIMAL), WIDE_ROW)}
 RECORD, DESCRIPTION = 20, 206
 UINT8, STRING = 2, 7
 
@@ -29,10 +49,10 @@ def definition(local, message, fields, developer=()):
     return head + b"".join(bytes([len(it)]) + b"".join(map(bytes, it)) for it in ([fields, developer] if developer else [fields]))
 
 
-def descriptions(count, name, units):
+def descriptions(count, name, units, letter=b"n"):
     """Descriptions of the developer fields 0, 1 and so on of the index 0: each a uint8 with its own name and its own units."""
     fields = [(0, 1, UINT8), (1, 1, UINT8), (2, 1, UINT8), (3, name, STRING), (8, units, STRING)]
-    told = [bytes([2, 0, at, UINT8]) + (b"%03d" % at).ljust(name, b"n") + b"u" * units for at in range(count)]
+    told = [bytes([2, 0, at, UINT8]) + (b"%03d" % at).ljust(name, letter) + letter * units for at in range(count)]
     return definition(2, DESCRIPTION, fields) + b"".join(told)
 
 
@@ -42,16 +62,20 @@ def numbers(size):
 
 
 class Family(NamedTuple):
-    """What stands first in a file, what is there many times, and how many messages that has. The commands that it is left out for cost
-    more, in proportion to what they print, as SECURITY.md says."""
+    """What stands first in a file, what is there many times, and how many messages that has."""
 
     first: bytes
     many: bytes
     messages: int
-    without: tuple = ()
 
 
 SHORT, FEW, LONG = descriptions(255, 3, 0), descriptions(255, 4, 1), descriptions(255, 250, 250)
+# As long as in the Profile, and of control characters.
+LONGEST, ESCAPED = descriptions(255, 64, 16), descriptions(255, 64, 16, b"\1")
+# Each field of records from 0 on, so that a table has as many columns as it may have.
+WIDE = SHORT + definition(1, RECORD, [(at, 1, UINT8) for at in range(128)]) + b"\1" + bytes(128)
+# A time, after which the header of a message may have one.
+TIMED = definition(1, RECORD, [(253, 4, 0x86)]) + b"\1" + (1_000_000_000).to_bytes(4, "little")
 FAMILIES = {
     "255 fields of size 0": Family(definition(0, RECORD, numbers(0)[0]), b"\0", 1),
     "255 fields of size 0 of a message without a name": Family(definition(0, 0xFF00, numbers(0)[0]), b"\0", 1),
@@ -67,13 +91,22 @@ FAMILIES = {
         definition(0, RECORD, numbers(1)[0][:129]) + definition(1, 18, numbers(1)[0][:129]), b"\0" + bytes(129) + b"\1" + bytes(129), 2),
     "255 developer fields of size 0": Family(FEW + definition(0, RECORD, [], numbers(0)[1]), b"\0", 1),
     "255 developer fields of size 0 with long names": Family(LONG + definition(0, RECORD, [], numbers(0)[1]), b"\0", 1),
-    "255 developer fields with long names": Family(LONG + definition(0, RECORD, [], numbers(1)[1]), b"\0" + bytes(range(255)), 1,
-                                                   ("show --json --profile",)),
+    "255 developer fields with long names": Family(LONG + definition(0, RECORD, [], numbers(1)[1]), b"\0" + bytes(range(255)), 1),
+    "255 developer fields with the longest names": Family(LONGEST + definition(0, RECORD, [], numbers(1)[1]), b"\0" + bytes(range(255)), 1),
+    "255 developer fields with names of control characters": Family(ESCAPED + definition(0, RECORD, [], numbers(1)[1]), b"\0" + bytes(range(255)), 1),
     "255 developer fields with short names": Family(SHORT + definition(0, RECORD, [], numbers(1)[1]), b"\0" + bytes(range(255)), 1),
     "developer fields by turns": Family(
         FEW + definition(0, RECORD, [], numbers(1)[1]) + definition(1, RECORD, [], numbers(1)[1][::-1]),
-        b"\0" + bytes(range(255)) + b"\1" + bytes(range(255)), 2, ("show --json --profile",)),
+        b"\0" + bytes(range(255)) + b"\1" + bytes(range(255)), 2),
+    "255 empty cells": Family(WIDE + definition(0, RECORD, [], numbers(0)[1]), b"\0", 1),
+    "a time and 254 empty cells": Family(WIDE + TIMED + definition(0, RECORD, [], numbers(0)[1]), b"\x81\x80", 2),
+    "a value in the first, a middle and the last of 256 cells": Family(
+        WIDE + definition(0, RECORD, [(0, 1, UINT8), (127, 1, UINT8)], [(127, 1, 0)]), b"\0\1\2\3", 1),
+    "points": Family(
+        TIMED + definition(0, RECORD, [(0, 4, 0x85), (1, 4, 0x85), (13, 1, 1), (3, 1, UINT8), (4, 1, UINT8)]),
+        b"\x81" + (0x80000000).to_bytes(4, "little") * 2 + b"\x80\xfe\xfe", 1),
     "definitions alone": Family(b"", definition(0, RECORD, *numbers(0)), 0),
+    "definitions without fields with one message each": Family(WIDE, definition(0, RECORD, []) + b"\0", 1),
     "definitions with one message each": Family(b"", definition(0, RECORD, [], [(0, 1, 0)]) + b"\0\0", 1),
     "descriptions": Family(b"", LONG, 255),
 }
@@ -87,11 +120,15 @@ def files(family):
     return [framed(family.first + family.many * (count * step)) for step in STEPS]
 
 
+# The C library clears and copies by instructions that valgrind counts once for each byte, unless it is told not to.
+WIDE_STORES = os.environ | {"GLIBC_TUNABLES": "glibc.cpu.x86_rep_stosb_threshold=1000000000:glibc.cpu.x86_rep_movsb_threshold=1000000000"}
+
+
 def cost(*words):
     """The instructions of a run, the bytes that it writes, and its status. A run that does not end has no number of instructions."""
     with tempfile.NamedTemporaryFile("r") as log, tempfile.TemporaryFile() as out:
         counting = ["--tool=cachegrind", "--cache-sim=no", "--cachegrind-out-file=/dev/null", "--log-file=" + log.name]
-        status = run("valgrind", *counting, *words, stdout=out)[0]
+        status = run("valgrind", *counting, *words, stdout=out, env=WIDE_STORES)[0]
         found = re.search(r"I +refs: +([\d,]+)", log.read())
         return int(found[1].replace(",", "")) if found else math.inf, out.seek(0, 2), status
 
@@ -103,22 +140,25 @@ def over(command, family, sizes, came):
     steps = [after - before for before, after in zip(sizes, sizes[1:])]
     taken, wrote = ([after[at] - before[at] for before, after in zip(came, came[1:])] for at in (0, 1))
     each = [count / step for count, step in zip(taken, steps)]
-    allowed = [max(INSTRUCTIONS[command] * step, CELL * count if "table" in command else 0) for step, count in zip(steps, wrote)]
+    allowed = [max(INSTRUCTIONS[command] * step, OF_TEXT * count if "show" in command else 0) for step, count in zip(steps, wrote)]
     if any(count > limit for count, limit in zip(taken, allowed)):
         return Difference("%s instructions at most" % allowed, taken)
     # What so few bytes take besides is not counted.
     if each[1] > 1.1 * each[0] + 100:
         return Difference("no more for the second half than for the first", each)
-    messages = [step // len(family.many) * family.messages for step in steps]
-    most = [WRITTEN * step + LINE * count for step, count in zip(steps, messages)]
-    if "--json" in command and any(count > limit for count, limit in zip(wrote, most)):
-        return Difference("%s bytes at most" % most, wrote)
+    if command in WRITTEN:
+        byte, message = WRITTEN[command]
+        messages = [step // len(family.many) * family.messages for step in steps]
+        # The digits of the numbers that grow.
+        most = [byte * (step - count) + message * count + 40 for step, count in zip(steps, messages)]
+        if any(count > limit for count, limit in zip(wrote, most)):
+            return Difference("%s bytes at most" % most, wrote)
     return None
 
 
 def of_the_program(given):
     """Each command over each family."""
-    rows = [(name, command) for name, family in FAMILIES.items() for command in INSTRUCTIONS if command not in family.without]
+    rows = [(name, command) for name in FAMILIES for command in INSTRUCTIONS]
     with tempfile.TemporaryDirectory() as folder:
         def judge(number, row):
             name, command = row

@@ -12,7 +12,7 @@ import columns
 from tools import reader
 from tools.cells import decimal_text
 from tools.checks import differs
-from tools.described import descriptions
+from tools.described import NAME_SIZE, UNITS_SIZE, descriptions
 from tools.described_files import described_file
 from tools.fit_files import changes, damaged, framed, kind_of, made
 from tools.program import room, run
@@ -67,7 +67,7 @@ def member(message, field, held, form):
 
 
 def developer_object(field, said):
-    """A developer field, by its description if it has one."""
+    """A developer field, by its description if it has one. A name or units that are longer than in the Profile are left out."""
     index, number, big, data = field
     key = [("index", index), ("number", number)]
     if said is None:
@@ -75,7 +75,8 @@ def developer_object(field, said):
     in_units, value = numbers_of(said.base, big, data)
     if in_units:
         value = one_or_all([None if it is None else read(decimal_text(*said.in_units(it))) for it in value])
-    return [*key, ("name", text_of(said.name)), ("units", text_of(said.units)), ("value", value)]
+    name, units = (text_of(text if len(text) <= size else b"") for text, size in ((said.name, NAME_SIZE), (said.units, UNITS_SIZE)))
+    return [*key, ("name", name), ("units", units), ("value", value)]
 
 
 def by_profile(data, utc):

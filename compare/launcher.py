@@ -8,16 +8,20 @@ import os
 import pathlib
 import shutil
 import subprocess
+import sys
 import tempfile
 
 from tools.checks import differs
 from tools.program import ROOT, run
 
+sys.path.insert(0, str(ROOT))
+import kept
+
 NEEDS = ()
 WORDS = ["show", "a file"]
 STATUS = 7
 KIT = "rattle-kit-0", "logic 0123"
-VERSION = "crates/fitrec/src/command/version.rt"
+VERSION = "crates/fit_commands/src/version.rt"
 REFUSED = "fitrec: release/fitrec is missing, damaged, or of other sources\n"
 
 PROGRAM = """#!/bin/sh
@@ -46,7 +50,7 @@ mkdir -p out/rlib
 touch out/rlib/stamp
 if [ "$here $1" = "fitrec run" ]; then
     cp "$SCRATCH/new" out/fitrec
-    grep "^const VERSION" src/command/version.rt >"$SCRATCH/stated"
+    grep "^const VERSION" ../fit_commands/src/version.rt >"$SCRATCH/stated"
     while [ $# -gt 0 ] && [ "$1" != -- ]; do shift; done
     [ $# -eq 0 ] || shift
     out/fitrec "$@"
@@ -56,8 +60,8 @@ fi
 
 def crates_of(tree):
     """Each crate, with the crates of this tree that it uses."""
-    rows = [line.partition(":") for line in (tree / "crates.txt").read_text().splitlines()]
-    return {name.split()[0]: [other for other in below.split() if other in [row[0] for row in rows]] for name, _, below in rows}
+    lines = kept.crates(tree)
+    return {name: kept.used_by(name, lines) for name in lines}
 
 
 def all_below(crates, name):
@@ -87,7 +91,6 @@ class Scratch:
                 path.parent.mkdir(parents=True)
                 path.write_text("as it was")
                 self.sources.append(path)
-        (self.folder / VERSION).parent.mkdir()
         shutil.copy(ROOT / VERSION, self.folder / VERSION)
         self.release, self.out = self.folder / "release", self.folder / "crates/fitrec/out"
         executable(self.folder / "new", PROGRAM.format("new"))
@@ -183,7 +186,7 @@ def builds():
                 yield "a source is another", differs((said[:2], was_built), wanted)
             change(path, before)
             yield "a source as it was", differs(tree.run(), ((*said_by("released"), ""), False))
-    for gone in ("crates/fit_base/src/lib.rt", "crates/fitrec/specs/Lib.antt"):
+    for gone in ("crates/fit_base/src/lib.rt", "crates/fit_commands/specs/Lib.antt"):
         with scratch(True) as tree:
             (tree.folder / gone).unlink()
             said, is_built = tree.run()

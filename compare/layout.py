@@ -1,4 +1,4 @@
-"""The structs of include/fitrec.h and those of the Rattle crates: sizes, and places of the fields."""
+"""The structs of include/fitrec.h and fitrec_device.h and those of the Rattle crates: sizes, and places of the fields."""
 
 import pathlib
 import re
@@ -48,7 +48,7 @@ def layout(kind, structs, constants):
 
 def of_c():
     """What the C compiler makes of the header: for each struct its size, and the place of each field."""
-    header = (ROOT / "include/fitrec.h").read_text()
+    header = "".join((ROOT / "include" / it).read_text() for it in ("fitrec.h", "fitrec_device.h"))
     lines = []
     for name in STRUCTS:
         body = re.search(r"struct fitrec_%s \{(.*?)\};" % name, header, re.S)[1]

@@ -10,6 +10,8 @@
      library earlier DATA JOURNAL OUT        saves without the last commit, if what it counts has changed
      library plain IN OUT
      library finish IN OUT                   the finished file goes to OUT; its buffer has just as many bytes, and too few at first
+     library shift SECONDS IN OUT            the moved file goes to OUT; its buffer has just as many bytes, and too few at first
+     library start TIME IN OUT               the same, moved so that the ride begins at this time
      library check IN
      library show IN UTC OUT                 the text goes to OUT; its buffer has just as many bytes, and too few at first
      library json IN UTC OUT                 the same as JSON
@@ -271,6 +273,43 @@ static void finish(char **words) {
     if (answer == FITREC_FINISHED)
         printf("heard %llu entries, %llu left out\n", (unsigned long long)counts.heard, (unsigned long long)counts.left_out);
     else if (answer <= FITREC_TRAILING_BYTES)
+        printf("at %llu\n", (unsigned long long)place);
+    check_guards(in);
+}
+
+/* Moves times into a buffer of so many bytes: by seconds, or to the start of the ride. */
+static unsigned shift_in(bool to_start, const char *number, struct buffer in, size_t size, struct buffer *out, uint64_t *place) {
+    *out = room(size);
+    fill(place, sizeof *place);
+    fill(&out->len, sizeof out->len);
+    unsigned answer = to_start ? fitrec_shift_start(in.bytes, in.size, (uint32_t)strtoul(number, NULL, 10), out->bytes, out->size, &out->len, place)
+                               : fitrec_shift(in.bytes, in.size, strtoll(number, NULL, 10), out->bytes, out->size, &out->len, place);
+    bool is_refused = answer != FITREC_SHIFTED && answer != FITREC_SHIFT_NO_ROOM;
+    check_numbers(place, sizeof *place, !answer || (answer > FITREC_TRAILING_BYTES && answer != FITREC_SHIFT_TOO_FAR));
+    check_numbers(&out->len, sizeof out->len, is_refused);
+    if (is_refused)
+        check_numbers(out->bytes, out->size, true);
+    return answer;
+}
+
+static void shift(bool to_start, char **words) {
+    struct buffer in = file_at(words[1], 0), out;
+    uint64_t place;
+    unsigned answer = shift_in(to_start, words[0], in, 0, &out, &place);
+    check_guards(out);
+    if (answer == FITREC_SHIFT_NO_ROOM) {
+        uint64_t needed = out.len;
+        if (shift_in(to_start, words[0], in, needed - 1, &out, &place) != FITREC_SHIFT_NO_ROOM || out.len != needed)
+            fail("another answer to a buffer that lacks one byte");
+        check_guards(out);
+        answer = shift_in(to_start, words[0], in, needed, &out, &place);
+        keep(out, words[2]);
+    } else {
+        shift_in(to_start, words[0], in, 2 * in.size + 1024, &out, &place);
+    }
+    check_guards(out);
+    printf("%u\n", answer);
+    if (answer && (answer <= FITREC_TRAILING_BYTES || answer == FITREC_SHIFT_TOO_FAR))
         printf("at %llu\n", (unsigned long long)place);
     check_guards(in);
 }
@@ -638,6 +677,8 @@ int main(int count, char **words) {
         plain(words + 2);
     else if (count == 4 && !strcmp(words[1], "finish"))
         finish(words + 2);
+    else if (count == 5 && (!strcmp(words[1], "shift") || !strcmp(words[1], "start")))
+        shift(!strcmp(words[1], "start"), words + 2);
     else if (count == 3 && !strcmp(words[1], "check"))
         check(words + 2);
     else if (count == 5 && !strcmp(words[1], "show"))

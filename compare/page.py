@@ -1,11 +1,12 @@
 #!/usr/bin/env -S python3 -B
 """Compares the page and its WebAssembly module with the program: the module under Node, as the library for C is compared, and the page in
-headless Chromium, wide and narrow, light and dark. It makes web/out/fitrec.html first.
+headless Chromium and Firefox, wide and narrow, light and dark, and in WebKit. It makes web/out/fitrec.html first.
 
-    compare/page.py FOLDER [GROUP..]
+    compare/page.py BROWSER FOLDER [GROUP..]
 
-makes no page, and puts a screenshot of each visit into a new folder, to be looked at."""
+makes no page, and puts a screenshot of each visit into a new folder, to be looked at. BROWSER is chromium, firefox or webkit."""
 
+import functools
 import json
 import os
 import pathlib
@@ -17,27 +18,39 @@ import sys
 import tempfile
 
 from columns import refusal_of, rows_of
+from shifting import start_of
 from tools import reader, release
 from tools.checks import differs, unless
 from tools.fit_files import damaged, made
 from tools.libraries import build
-from tools.library_calls import of_files, of_finished, of_mended, of_recordings, of_shown_and_checked
+from tools.library_calls import of_files, of_finished, of_mended, of_recordings, of_shifted, of_shown_and_checked
 from tools.needs import missing
 from tools.page_app import of_a_long_ride, of_an_app
+from tools.page_clocks import of_clocks, of_other_clocks
 from tools.page_files import of_choosing, of_inputs, of_lists
+from tools.page_forms import of_archives, of_exports
 from tools.page_holes import of_chains, of_holes, of_no_messages
-from tools.page_people import of_people
+from tools.page_layout import of_layout, of_many_laps
+from tools.page_people import of_choices, of_kept_choices, of_people
 from tools.page_rides import of_looking, of_numbers
 from tools.page_values import of_values
+from tools.page_words import of_words
 from tools.pages import RIDE, START, both, recorded, tour
 from tools.program import FITREC, NAMES, ROOT, run
-from tools.visits import PAGE
+from tools.visits import PAGE, Browser
 
-NEEDS = ("fitrec", "rt", "node", "wasm-opt", "chromium")
+NEEDS = ("fitrec", "rt", "node", "wasm-opt", "esbuild", "tsc", "chromium", "firefox-esr", "WebKitWebDriver", "Xvfb")
 WEB, MODULE = ROOT / "web", ROOT / "compare/module.mjs"
-GROUPS = of_inputs, of_choosing, of_lists, of_holes, of_no_messages, of_chains, of_numbers, of_values, of_looking, of_people, of_an_app, of_a_long_ride
+GROUPS = (of_inputs, of_words, of_choosing, of_lists, of_archives, of_holes, of_no_messages, of_chains, of_numbers, of_values, of_looking,
+          of_exports, of_layout, of_many_laps, of_people, of_choices, of_kept_choices, of_clocks, of_other_clocks, of_an_app, of_a_long_ride)
+# The browsers, what drives each, and the groups of visits that it makes. Chromium makes all, and the others those that show whether a browser
+# does what the page asks of it. What WebKit has no way to, such as a narrow window, is left out of its visits.
+BROWSERS = {
+    "chromium": (("chromium",), GROUPS),
+    "firefox": (("firefox-esr",), (of_inputs, of_choosing, of_archives, of_looking, of_exports, of_layout, of_choices, of_kept_choices, of_clocks, of_an_app)),
+    "webkit": (("WebKitWebDriver", "Xvfb"), (of_inputs, of_numbers, of_choices, of_clocks))}
 # The most bytes of the page.
-MOST = 193_000
+MOST = 175_000
 
 
 def pieces_of(said, front):
@@ -84,6 +97,8 @@ def of_calls(fitrec, many, seed):
         hole[900:940] = bytes(40)
         (folder / "hole.fit").write_bytes(hole)
         (folder / "chain.fit").write_bytes(ride + ride + b"\0\1")
+        run(fitrec, "shift", "--by", "-3600", folder / "ride.fit", folder / "moved.fit")
+        moved = (folder / "moved.fit").read_bytes()
         said = run(fitrec, "salvage", "--skip", folder / "hole.fit", folder / "skipped.fit")[1]
         skipped = {**pieces_of(said, hole[0]), "file": (folder / "skipped.fit").read_bytes().hex()}
         rest = [("save", both(torn), {"file": ride.hex(), "summary": summary, "uncommitted": 0}),
@@ -91,6 +106,8 @@ def of_calls(fitrec, many, seed):
                 ("save", [torn / NAMES[0], other / NAMES[1]], {"kind": "Damaged"}), ("check", [folder / "ride.fit"], summary),
                 ("check", [folder / "kept.fit"], {"kind": "NoSession"}), ("finish", [folder / "kept.fit"], finished),
                 ("finish", [torn / NAMES[1]], {"kind": "HeaderSize", "place": 0}), ("plain", [folder / "mended" / NAMES[0]], ride.hex()),
+                ("shift", [folder / "ride.fit"], moved.hex()), ("shift", [torn / NAMES[1]], {"kind": "HeaderSize", "place": 0}),
+                ("shiftStart", [folder / "ride.fit"], moved.hex()),
                 ("uncommitted", both(torn), 0), ("leaveChanged", both(torn), None), ("salvage", [torn / NAMES[1]], {"kind": "HeaderSize"}),
                 ("skip", [folder / "hole.fit"], skipped), ("skip", [torn / NAMES[1]], {"kind": "HeaderSize"}),
                 ("split", [folder / "chain.fit"], [ride.hex(), ride.hex(), "0001"])]
@@ -99,23 +116,29 @@ def of_calls(fitrec, many, seed):
         run(fitrec, "save", more, folder / "saved.fit")
         found, speed = rows_of((folder / "saved.fit").read_bytes(), 20), {"fields": [73, 6], "scale": 0.0036, "offset": 1}
         rest += [("committed", both(more), [[[row[253] for row in found], [row.get(73, row.get(6)) * 0.0036 + 1 for row in found]]])]
-        asked += [{"name": name, "files": files, "more": [[[20, [253, speed]]]] if name == "committed" else []} for name, files, _ in rest]
+        given = {"committed": [[[20, [253, speed]]]], "shift": [-3600], "shiftStart": [start_of(ride) - 3600]}
+        asked += [{"name": name, "files": files, "more": given.get(name, [])} for name, files, _ in rest]
         status, out, err = run(ROOT / "compare/calls.mjs", input=json.dumps(asked, default=str))
         yield "called", differs((status, err), (0, ""))
         for it, answer, right in zip(asked, json.loads(out or "[]"), [*wanted, *(it for _, _, it in rest)]):
             yield it["name"], differs(answer, right, it["files"])
 
 
-def in_a_browser(group):
-    """A group of visits, in a new folder, under its own name."""
-    def visited(fitrec):
-        if missing("chromium"):
-            yield "the page in a browser", missing("chromium")
-            return
-        with tempfile.TemporaryDirectory() as folder:
-            yield from group(fitrec, pathlib.Path(folder))
-    visited.__name__ = group.__name__
-    return visited
+def visited(group, name, fitrec):
+    """A group of visits by a browser, in a new folder."""
+    absent = missing(*BROWSERS[name][0])
+    if absent:
+        yield "the page in a browser", absent
+        return
+    with tempfile.TemporaryDirectory() as folder:
+        yield from group(fitrec, pathlib.Path(folder), Browser(name, folder))
+
+
+def of_modules():
+    """The scripts of the page are modules, which import what they use, and take and give what their types say."""
+    for it in sorted([*WEB.glob("*.js"), *WEB.glob("*.mjs"), *(ROOT / "compare").glob("*.mjs"), *(ROOT / "compare/tools").glob("*.mjs")]):
+        yield "%s is a module" % it.name, differs(run("node", "--check", it)[::2], (0, ""))
+    yield "its types", missing("tsc") or differs(run("tsc", "-p", WEB / "jsconfig.json")[:2], (0, ""))
 
 
 def proved_and_built():
@@ -131,9 +154,10 @@ def proved_and_built():
 
 
 def check(given):
-    if missing("node", "wasm-opt"):
-        yield "the page and its module", missing("node", "wasm-opt")
+    if missing("node", "wasm-opt", "esbuild"):
+        yield "the page and its module", missing("node", "wasm-opt", "esbuild")
         return
+    yield from given.checks(of_modules)
     yield from given.checks(proved_and_built)
     if not (WEB / "out/fit_c.wasm").exists():
         return
@@ -141,20 +165,22 @@ def check(given):
     os.environ["FITREC_MODULE"] = str(WEB / "out/fit_c.wasm")
     count = given.files // 250
     for group, many in ((of_recordings, count), (of_files, count // 2), (of_mended, count // 4), (of_finished, count // 4),
-                        (of_shown_and_checked, count // 4)):
+                        (of_shifted, count // 4), (of_shown_and_checked, count // 4)):
         yield from given.checks(group, given.fitrec, MODULE, many, given.seed, under="module")
     yield from given.checks(of_calls, given.fitrec, given.files // 60, given.seed)
-    for group in GROUPS:
-        yield from given.checks(in_a_browser(group), given.fitrec)
+    for name, (_, groups) in BROWSERS.items():
+        for group in groups:
+            yield from given.checks(functools.update_wrapper(functools.partial(visited, group, name), group), given.fitrec, under=name)
 
 
 if __name__ == "__main__":
-    to = pathlib.Path(sys.argv[1]).resolve()
+    name, to = sys.argv[1], pathlib.Path(sys.argv[2]).resolve()
     to.mkdir()
     for group in GROUPS:
-        if sys.argv[2:] and group.__name__ not in sys.argv[2:]:
+        if sys.argv[3:] and group.__name__ not in sys.argv[3:]:
             continue
         with tempfile.TemporaryDirectory() as scratch:
-            for name, outcome in group(pathlib.Path(os.environ.get("FITREC", FITREC)), pathlib.Path(scratch), to):
+            browser = Browser(name, scratch, to)
+            for what, outcome in group(pathlib.Path(os.environ.get("FITREC", FITREC)), pathlib.Path(scratch), browser):
                 if outcome is not None:
-                    print(group.__name__, name, str(outcome)[:1500], sep=": ")
+                    print(group.__name__, what, str(outcome)[:1500], sep=": ")

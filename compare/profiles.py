@@ -1,8 +1,8 @@
-"""Checks the table of the public FIT Profile (python/fitrec/profile.txt): it has the names and units of the texts, the program's table is
-made of it, and it states what the Perl module in Debian's package pytrainer states, as perl reads that. The module is the one that is
-installed, or else the one that `apt-get download` fetches. Debian 12 has an older one with fewer fields. And compares the cells of
-`table --profile` with the second reader, struct and csv: fields of every type, developer fields, all fields of a file, and the rides
-of other makers."""
+"""Checks the tables of the public FIT Profile (python/fitrec/profile.txt, enums.txt): they have the names and units of the texts, the
+program's table is made of the first, and they state what the Perl module in Debian's package pytrainer states, as perl reads that. The
+module is the one that is installed, or else the one that `apt-get download` fetches. Debian 12 has an older one with fewer fields. And
+compares the cells of `table --profile` with the second reader, struct and csv: fields of every type, developer fields, all fields of a
+file, and the rides of other makers."""
 
 import collections
 import pathlib
@@ -17,7 +17,7 @@ from tools.contents import content_made
 from tools.described_files import RECORD, described_file
 from tools.fit_files import framed
 from tools.needs import is_there
-from tools.profile_table import TABLE, rows_of
+from tools.profile_table import TABLE, enums_of, rows_of
 from tools.program import ROOT, run
 
 NEEDS = ("fitrec", "perl")
@@ -32,6 +32,10 @@ CORRECTED = {(55, 8): ("distance_16", "m", 0.01, 0), (55, 9): ("cycles_16", "cyc
 UNITS = {"watts": "W", "deg.C": "C", "degrees": "deg", "mps": "m/s", "minutes": "min", "hr": "h", "percent": "%", "radians": "rad",
          "radians/second": "rad/s"}
 TYPES = {"date_time": "date", "local_date_time": "local_date"}
+
+# The types of numbers whose names are names of values, as those of an enum are. Its base type is 0.
+LIKE_ENUMS = {"antplus_device_type", "battery_status", "exercise_category", "fit_base_type", "fit_base_unit", "local_device_type",
+              "manufacturer", "mesg_num", "set_type"}
 
 # A unit of a table, by the end of a column's name.
 SHORT = {"m": "m", "s": "s", "m_s": "m/s", "bpm": "bpm", "w": "W", "deg": "semicircles", "rpm": "rpm", "c": "C"}
@@ -109,6 +113,29 @@ def of_the_module():
             yield "a field of the module", differs(table.get(place), facts, place)
         if module.parent.name == "Geo":
             yield "all fields are the module's", differs(sorted(set(table) - set(said)), [])
+        yield from of_the_names(module, text)
+
+
+def of_the_names(module, text):
+    """The names of values are the module's, and so are the fields that have them."""
+    status, values, errors = run("perl", ROOT / "compare/tools/fields.pl", module, "values")
+    yield "perl reads the names", differs((status, errors), (0, ""))
+    said, kinds, enums = {}, {}, enums_of()
+    for kind, base, mask, number, name in (it.split("\t") for it in values.splitlines()):
+        if (base == "0" or kind in LIKE_ENUMS) and not mask and (kind, name) not in {("mesg_num", it) for it in LEFT_OUT}:
+            said.setdefault(kind, {})[int(number)] = name
+    for line in text.splitlines():
+        facts, kind = stated(line), line.split("\t")[4]
+        if facts and kind in said:
+            kinds.setdefault(kind, set()).add("%s.%s" % facts[1][:2])
+    yield "many names", unless(sum(len(said[it]) for it in kinds) > 1000, len(kinds), "more than 1,000 names")
+    for kind, fields in kinds.items():
+        its, names = enums.get(kind, ([], {}))
+        yield "the fields of " + kind, differs(sorted(fields - set(its)), [])
+        yield "the names of " + kind, differs({it: names.get(it) for it in said[kind]}, said[kind])
+    if module.parent.name == "Geo":
+        yield "all types are the module's", differs({kind: (set(its), names) for kind, (its, names) in enums.items()}, {
+            kind: (fields, said[kind]) for kind, fields in kinds.items()})
 
 
 def file_of_kinds(pick):
@@ -162,17 +189,23 @@ def described_cell(developer, said, name, form):
     return cells.cell_of(it.base, big, data, lambda n, _: str(n) if "--raw" in form else cells.decimal_text(*it.in_units(n)))
 
 
+def described_rows(found, message, fields, names, form):
+    """The cells of these fields and of the developer fields of these names, for each message of this number."""
+    rows = []
+    for (number, held, developer), said in zip(found, described.descriptions(found)):
+        if number == message:
+            first = {field: it for field, (it,) in reversed(held)}
+            rows.append([columns.cell_in(message, field, first, form, False) for field in fields]
+                        + [described_cell(developer, said, name, form) for name in names])
+    return rows
+
+
 def described_table(fitrec, source, message, form):
     """What differs between the table by the program, with a column for each name of a developer field, and the one by the second reader."""
     data = source.read_bytes()
     found = reader.messages(data, False, columns.held_by)[3]
-    fields = held_fields(found, message)[:128]
-    names, table = described.names(found), []
-    for (number, held, developer), said in zip(found, described.descriptions(found)):
-        if number == message:
-            first = {field: it for field, (it,) in reversed(held)}
-            table.append([columns.cell_in(message, field, first, form, False) for field in fields]
-                         + [described_cell(developer, said, name, form) for name in names])
+    fields, names = held_fields(found, message)[:128], described.names(found)
+    table = described_rows(found, message, fields, names, form)
     heads = [columns.name_of(message, field, form)[1] for field in fields] + list(map(reader.text_of, names))
     said = run(fitrec, "table", *form, "--message", columns.TITLES[message], source)
     return differs(said[::2], (0, ""), data) or cells.table_differs(said[1], heads, table, data, len(names))
@@ -191,6 +224,61 @@ def described_fields(given):
             source = pathlib.Path(folder, "%d.fit" % number)
             source.write_bytes(data)
             return "a table of developer fields", described_table(given.fitrec, source, message, form)
+
+        yield from given.judged(judge, inputs)
+
+
+def is_word(name):
+    """Whether --fields can have this name: it is UTF-8 without a comma."""
+    try:
+        return "," not in name.decode()
+    except UnicodeDecodeError:
+        return False
+
+
+def chosen_table(fitrec, sources, message, fields, names, form):
+    """What differs between the table of these files by the program, with columns of these fields and of developer fields of these names,
+    and the one by the second reader."""
+    table, files = [], []
+    for source in sources:
+        found = reader.messages(source.read_bytes(), False, columns.held_by)[3]
+        own = described_rows(found, message, fields, names, form)
+        table += own
+        files += [str(source)] * len(own)
+    titles = [columns.name_of(message, field, form) for field in fields]
+    heads = [head for _, head in titles] + list(map(reader.text_of, names))
+    words = ",".join([*map(bytes.decode, names[:1]), *(name for name, _ in titles), *map(bytes.decode, names[1:])])
+    status, came, err = run(fitrec, "table", *form, "--message", columns.TITLES[message], "--fields", words, *sources)
+    difference = differs((status, err), (0, ""))
+    if "--each" in form and not difference:
+        first = '(?m)^"(%s)",' % "|".join(re.escape(str(it)) for it in sources)
+        difference = differs(re.findall(first, came), files)
+        came = re.sub(first, "", came.removeprefix("file,"))
+    return difference or cells.table_differs(came, heads, table, sources, len(names))
+
+
+def chosen_names(pick, found, others=(b"Power", b"Form Power", b'a"b')):
+    """Some names of the developer fields of a file, in any order, and some that no file has."""
+    names = [it for it in described.names(found) if is_word(it)][:100]
+    return pick.sample(names, pick.randrange(len(names) + 1)) + pick.sample(others, pick.randrange(len(others) + 1))
+
+
+def chosen_fields(given):
+    """Developer fields that are chosen by name, in one file, and in several, of which each has descriptions of its own."""
+    pick, inputs = random.Random(given.seed), []
+    for at in range(given.files // 8):
+        form = ["--profile"] + ["--each"] * (at % 2) + pick.choice([[], ["--raw"], ["--utc"]])
+        sources = [described_file(pick) for _ in range(pick.choice([1, 2, 3]) if at % 2 else 1)]
+        names = chosen_names(pick, reader.messages(pick.choice(sources), False, columns.held_by)[3])
+        known = {name for (number, _), (_, name, *_) in columns.ROWS.items() if number == RECORD}
+        names = [it for it in names if it.decode() not in known and not re.fullmatch(rb"field_\d+", it)]
+        inputs.append((sources, pick.sample([253, 3, 7, 29], pick.choice([1, 1, 2, 4])), names, form))
+    with tempfile.TemporaryDirectory() as folder:
+        def judge(number, row):
+            sources = [pathlib.Path(folder, "%d_%d.fit" % (number, at)) for at in range(len(row[0]))]
+            for source, data in zip(sources, row[0]):
+                source.write_bytes(data)
+            return "a table of chosen developer fields", chosen_table(given.fitrec, sources, RECORD, *row[1:])
 
         yield from given.judged(judge, inputs)
 
@@ -253,12 +341,22 @@ def other_makers_rides(given):
                 continue
             for message in sorted({number for number, _, _ in found} & set(columns.TITLES)):
                 held = {field for number, fields, _ in found if number == message for field, _ in fields}
-                inputs.append((source, message, sorted(held)[:128]))
+                inputs.append(([source], message, sorted(held)[:128], None))
+            names = [it for it in described.names(found) if is_word(it)][:100]
+            if names:
+                inputs.append(([source], RECORD, [253, 3], names))
+        named = [row for row in inputs if row[3]]
+        if named:
+            every = [source for sources, *_ in named for source in sources]
+            inputs.append((every, RECORD, [253, 3], list(dict.fromkeys(name for *_, names in named for name in names))[:100]))
 
         def judge(number, row):
-            source, message, fields = row
-            name = "%s: messages %d with the Profile" % (source.name, message)
-            return name, columns.by_program(given.fitrec, source, message, fields, ["--profile"])
+            sources, message, fields, names = row
+            if names:
+                form = ["--profile"] + ["--each"] * (len(sources) > 1)
+                return "developer fields of other makers", chosen_table(given.fitrec, sources, message, fields, names, form)
+            name = "%s: messages %d with the Profile" % (sources[0].name, message)
+            return name, columns.by_program(given.fitrec, sources[0], message, fields, ["--profile"])
 
         yield from given.judged(judge, inputs)
 
@@ -266,5 +364,5 @@ def other_makers_rides(given):
 def check(given):
     for group in of_the_texts, of_the_rows, of_what_is_made, of_the_module:
         yield from given.checks(group)
-    for group in kinds, described_fields, all_fields, other_makers_rides:
+    for group in kinds, described_fields, chosen_fields, all_fields, other_makers_rides:
         yield from given.checks(group, given)

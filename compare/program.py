@@ -104,8 +104,8 @@ def refused_commands(fitrec, small):
     for line, data in [*files.items(), *others.items()]:
         name = fitrec.write(line.split("(")[0].split()[0] + ".fit", data)
         yield ["check", name], line
-        for words in (["show"], ["show", "--json"], ["table"], ["plain"]) if line in files else ():
-            yield [*words, name, *["out"] * (words == ["plain"])], line
+        for words in (["show"], ["show", "--json"], ["table"], ["plain"], ["shift", "--by", "1"]) if line in files else ():
+            yield [*words, name, *["out"] * (words[0] in ("plain", "shift"))], line
     for line in ("HeaderSize at 0", "Protocol at 1", "Magic at 8"):
         yield ["salvage", line.split()[0] + ".fit", "out"], line
     for size in range(14):
@@ -125,7 +125,7 @@ def refused_commands(fitrec, small):
     for words in (["repair"], ["repair", "--verify"]):
         yield [*words, "torn"], "Damaged"
         yield [*words, "empty"], "NothingRecorded"
-    for words in (["salvage"], ["salvage", "--all"], ["salvage", "--plain"], ["plain"]):
+    for words in (["salvage"], ["salvage", "--all"], ["salvage", "--plain"], ["plain"], ["shift", "--by", "1"]):
         yield [*words, "NoLap.fit", "."], "cannot write ."
 
 
@@ -137,7 +137,7 @@ def refusals(fitrec, small):
     large.touch()
     os.truncate(large, MOST + 1)
     everything = [*refused_commands(fitrec, small)]
-    for words in (["show"], ["check"], ["replay", "refused"], ["simulate"], ["salvage", "out"], ["plain", "out"], ["table"]):
+    for words in (["show"], ["check"], ["replay", "refused"], ["simulate"], ["salvage", "out"], ["plain", "out"], ["shift", "--by", "1", "out"], ["table"]):
         for name, line in (("none", "cannot open none"), (".", "cannot read ."), ("large", "TooLarge")):
             everything.append(([*words[:1], name, *words[1:]], line))
     everything += [([*words, "none"], "cannot open none") for words in (["repair"], ["repair", "--verify"], ["replay", "twice"])]
@@ -150,7 +150,8 @@ def refusals(fitrec, small):
     fitrec.run("replay", "start", "refused")
     with open("/dev/full", "wb") as full:
         for words in (["show", "refused/activity.fit"], ["check", "refused/activity.fit"], ["replay", "start", "empty"], ["simulate", "start"], ["repair", "refused"],
-                      ["salvage", "NoLap.fit", "out"], ["salvage", "TrailingBytes.fit", "out"], ["plain", "NoLap.fit", "out"]):
+                      ["salvage", "NoLap.fit", "out"], ["salvage", "TrailingBytes.fit", "out"], ["plain", "NoLap.fit", "out"],
+                      ["shift", "--by", "1", "NoLap.fit", "out"]):
             yield "output that is full, of " + words[0], differs(fitrec.run(*words, stdout=full), (1, "", "fitrec: cannot write -\n"), words)
 
 

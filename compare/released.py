@@ -1,8 +1,8 @@
 """Checks release/: it is of the sources that are there, each file has its checksum and the bytes that are made here from what is proved, and
 a clone on a machine without the kit saves a ride by it. Faults that are planted in a copy of the folder are seen.
 
-What is made here is compared where it is made: the page in page.py, the libraries in library.py and device.py, and the objects for devices
-there too."""
+What is made here is compared where it is made: the page in page.py, the static libraries in library.py and device.py, and the objects for
+devices there too; the shared library and the wheel here."""
 
 import base64
 import hashlib
@@ -11,19 +11,22 @@ import pathlib
 import re
 import shutil
 import tempfile
+import zipfile
 import zlib
 
 from tools.checks import differs, unless
 from tools.needs import missing
 from tools.program import ROOT, bytes_of, run
-from tools.release import OBJECTS, RELEASE, is_of_these_sources, said_by, same, stated
+from tools.release import OBJECTS, RELEASE, is_of_these_sources, kept, said_by, same, stated
 from tools.rides import script_of
 
-NEEDS = ("fitrec", "node", "dpkg")
-MOST = 3_000_000
+NEEDS = ("fitrec", "node", "dpkg", "rt", "cc", "python3-setuptools", "python3-wheel", "python3-pip")
+MOST = 3_100_000
 # What is taken as it stands in the tree.
-COPIED = ["include/fitrec.h", "docs/fitrec.1", "completions/fitrec.bash", "completions/_fitrec", "completions/fitrec.fish"]
-MADE = ["fitrec", "fitrec.html", "manifest.webmanifest", "service-worker.js", "icon.svg", "libfit_c.a", "libfit_device.a", *OBJECTS]
+COPIED = ["include/fitrec.h", "include/fitrec_device.h", "docs/fitrec.1", "completions/fitrec.bash", "completions/_fitrec", "completions/fitrec.fish"]
+MADE = ["fitrec", "fitrec.html", "manifest.webmanifest", "service-worker.js", "icon.svg", "libfit_c.a", "libfit_device.a", "libfitrec.so", *OBJECTS]
+# For every Python, on a system with the C library that the shared one needs.
+WHEEL = "fitrec-%s-py3-none-manylinux_2_14_x86_64.whl"
 # What the launcher needs of a system.
 TOOLS = ["sh", "dirname", "readlink", "find", "sort", "xargs", "sha256sum", "grep"]
 
@@ -34,7 +37,7 @@ def faults_of(release):
     if not is_of_these_sources(release):
         yield "it is of other sources: ./build-release makes it anew"
     package = "fitrec_%s_amd64.deb" % of.get("version")
-    wanted = ["BUILT-FROM", "SHA256SUMS", package, *MADE, *(pathlib.Path(it).name for it in COPIED)]
+    wanted = ["BUILT-FROM", "SHA256SUMS", package, WHEEL % of.get("version"), *MADE, *(pathlib.Path(it).name for it in COPIED)]
     if present != sorted(wanted):
         yield "it has other files: %s" % (set(present) ^ set(wanted))
         return
@@ -52,6 +55,21 @@ def faults_of(release):
     depends = "libc6 (>= %s)\n" % needed_by(release / "fitrec")
     if shutil.which("dpkg-deb") and run("dpkg-deb", "--field", release / package, "Depends")[1] != depends:
         yield "the package needs something else than the C library of the program"
+    yield from faults_of_wheel(release, release / (WHEEL % of.get("version")))
+
+
+def faults_of_wheel(release, wheel):
+    """What is wrong with the wheel: what is in it, and what it says that its library needs."""
+    said = said_by("readelf", "-dW", release / "libfitrec.so")
+    if re.findall(r"\((NEEDED|SONAME)\).*\[(.+)\]", said) != [("NEEDED", "libc.so.6"), ("SONAME", "libfitrec.so." + wheel.name.split("-")[1][0])]:
+        yield "the shared library needs another one, or has another name: " + said
+    if "manylinux_%s_x86_64.whl" % needed_by(release / "libfitrec.so").replace(".", "_") != wheel.name.split("-")[-1]:
+        yield "the wheel is for another C library than its own"
+    with zipfile.ZipFile(wheel) as opened:
+        its = {it: opened.read(it) for it in opened.namelist() if ".dist-info/" not in it}
+    wanted = {"fitrec/" + it.name: it.read_bytes() for it in (ROOT / "python/fitrec").iterdir() if it.is_file()}
+    if its != wanted | {"fitrec/libfitrec.so": bytes_of(release / "libfitrec.so")}:
+        yield "the wheel has other files than python/fitrec and the shared library"
 
 
 def needed_by(program):
@@ -107,6 +125,19 @@ def of_folder(fitrec):
             yield "a planted fault is seen", unless(list(faults_of(copy)), "nothing", name)
 
 
+def of_the_libraries():
+    """The shared library and the wheel, as they are made here of the released static library."""
+    with tempfile.TemporaryDirectory() as folder:
+        kept.shared_library(RELEASE / "libfit_c.a", folder)
+        yield same("libfitrec.so", folder + "/libfitrec.so")
+        why, name = missing("python3-setuptools", "python3-wheel", "python3-pip"), WHEEL % stated(RELEASE)["version"]
+        if why:
+            yield name + " has the released bytes", why
+            return
+        run(ROOT / "python/build-wheel", folder + "/libfitrec.so", folder)
+        yield same(name, pathlib.Path(folder, name))
+
+
 def clone(to):
     """Copies what git keeps, and the release; where git does not answer, the whole tree."""
     listed = run("git", "ls-files", "-z", cwd=ROOT)[1] if shutil.which("git") else ""
@@ -136,7 +167,8 @@ def of_a_clone(fitrec):
         if missing("node"):
             yield "the page of a clone", missing("node")
         else:
-            module = re.search(r"inflated\('([\w+/=]+)'\)", (folder / "clone/release/fitrec.html").read_text())[1]
+            # The page has its scripts and the module deflated; the module is longer.
+            module = max(re.findall(r"""["'`]([\w+/=]{1000,})["'`]""", (folder / "clone/release/fitrec.html").read_text()), key=len)
             (folder / "module.wasm").write_bytes(zlib.decompress(base64.b64decode(module)))
             words = ["save", folder / "FOLDER/activity.fit", folder / "FOLDER/activity.frj", folder / "page.fit"]
             said = run(ROOT / "compare/module.mjs", *words, env=os.environ | {"FITREC_MODULE": str(folder / "module.wasm")})
@@ -146,5 +178,6 @@ def of_a_clone(fitrec):
 
 def check(given):
     yield from given.checks(of_folder, given.fitrec)
+    yield from given.checks(of_the_libraries)
     if (RELEASE / "fitrec").exists():
         yield from given.checks(of_a_clone, given.fitrec)

@@ -1,4 +1,4 @@
-"""Checks what `fitrec salvage`, `plain` and `save` do with the file OUT, as docs/PROGRAM.md describes it: OUT is written whole or not at
+"""Checks what `fitrec salvage`, `plain`, `shift` and `save` do with the file OUT, as docs/PROGRAM.md describes it: OUT is written whole or not at
 all, whichever system call fails, whatever has its name, and whoever has it open."""
 
 import errno
@@ -61,8 +61,8 @@ class Command:
         return [folder / "activity.fit"]
 
     def sources_under_way(self, folder):
-        """The same while it is being recorded. Its data file is no whole file then, which plain needs."""
-        return [] if self.words == ["plain"] else self.sources_in(folder)
+        """The same while it is being recorded. Its data file is no whole file then, which plain and shift need."""
+        return [] if self.words[0] in ("plain", "shift") else self.sources_in(folder)
 
     def wrong_sources(self, folder):
         """Makes in this folder what cannot be IN. Returns each, with what is reported of it."""
@@ -407,6 +407,6 @@ def check(given):
     small = given.small
     with for_everyone(given.fitrec) as fitrec, tracing(fitrec) as traced:
         for command in (Command(traced, ["salvage"], "kept 18 of 18\n", small), Command(traced, ["salvage", "--plain"], "kept 18 of 18\n", small),
-                        Command(traced, ["plain"], "messages 1\n", small), Save(traced)):
+                        Command(traced, ["plain"], "messages 1\n", small), Command(traced, ["shift", "--by", "0"], "messages 1\n", small), Save(traced)):
             for group in GROUPS:
                 yield from given.checks(group, command, under=" ".join(command.words))

@@ -10,7 +10,6 @@ import time
 
 from tools.checks import Check, differs, unless
 from tools.edits import MOST, Edit, batches_of, merged, refused_in
-from tools.kit import load_rt
 from tools.program import CORES, ROOT
 
 sys.path.insert(0, str(ROOT))
@@ -47,7 +46,7 @@ def tried(rt, crate, waits):
 
 
 def check(given):
-    rt = load_rt()
+    rt = kept.load_rt()
     rt.rtlib.guarded()
     crates = [it for it in rt.rtlib.crates_below(str(ROOT)) if bodies_of(it) and (not given.groups or it.name in given.groups)]
     # The gate proves them in this order.

@@ -1,6 +1,6 @@
-/* The calls of include/fitrec.h over the module that device/build makes. Each lends its arguments to the module's memory. */
+/* The calls of include/fitrec_device.h over the module that device/build makes. Each lends its arguments to the module's memory. */
 
-#include "fitrec.h"
+#include "fitrec_device.h"
 #include "fitrec_module.h"
 #include <string.h>
 
@@ -64,6 +64,26 @@ static uint8_t by_windows(uint32_t (*step)(Z_fitrec_instance_t *, u32, u32), str
     memcpy(recovery, module.w2c_memory.data + recovery_at(), sizeof *recovery);
     memcpy(plan, module.w2c_memory.data + plan_at(), sizeof *plan);
     return (uint8_t)answer;
+}
+
+/* What a session decides (session.c). */
+uint8_t fitrec_session_may(uint8_t finding, uint8_t step);
+uint32_t fitrec_session_offset(uint32_t last, uint32_t clock);
+uint32_t fitrec_session_base(uint32_t last, uint32_t distance);
+
+uint8_t fitrec_session_may(uint8_t finding, uint8_t step) {
+    make_ready();
+    return (uint8_t)Z_fitrecZ_fitrec_session_may(&module, finding, step);
+}
+
+uint32_t fitrec_session_offset(uint32_t last, uint32_t clock) {
+    make_ready();
+    return Z_fitrecZ_fitrec_session_offset(&module, last, clock);
+}
+
+uint32_t fitrec_session_base(uint32_t last, uint32_t distance) {
+    make_ready();
+    return Z_fitrecZ_fitrec_session_base(&module, last, distance);
 }
 
 uint8_t fitrec_start(struct fitrec_recorder *recorder, size_t data_size, uint32_t time, uint32_t serial, uint8_t sport,

@@ -1,10 +1,13 @@
-/* What compare/device.c needs on an emulated processor with semihosting. It records with both files in memory, and this reports how much
-   of the stack each call used, and how much of the module's own all of them. */
+/* What compare/device.c and compare/session.c need on an emulated processor with semihosting. They record with both files in memory, and this
+   reports how much of the stack each call used, and how much of the module's own all of them. */
 
 #include "../examples/device/files.h"
 #include <stdio.h>
 #include <stdlib.h>
 #include <string.h>
+
+/* As docs/EMBEDDING.md has it. */
+FITREC_IS(session, sizeof(struct fitrec_session) == 5056);
 
 /* Only the module in C has it. */
 extern uint8_t fitrec_memory[] __attribute__((weak));
@@ -12,23 +15,8 @@ extern uint8_t fitrec_memory[] __attribute__((weak));
 enum { PAINT = 0xA5 };
 
 /* The program asks for no files of a system here. */
-int open_files(struct files *files, const char *folder) {
-    (void)files, (void)folder;
-    return -1;
-}
-
-int64_t file_size(const struct files *files, int file) {
-    (void)files, (void)file;
-    return -1;
-}
-
-int carry_out(const struct files *files, const struct fitrec_plan *plan) {
-    (void)files, (void)plan;
-    return -1;
-}
-
-int read_window(const struct files *files, struct fitrec_recovery *recovery) {
-    (void)files, (void)recovery;
+int open_files(struct fitrec_device *device, const char *folder) {
+    (void)device, (void)folder;
     return -1;
 }
 
@@ -66,12 +54,13 @@ static __attribute__((noinline)) void note(struct measured *it, const uint8_t *f
 }
 
 /* The linker puts these in the place of the library's calls. */
-#define MEASURED(name, parameters, arguments) \
-    uint8_t __real_fitrec_##name parameters; \
-    uint8_t __wrap_fitrec_##name parameters { \
+#define MEASURED(name, parameters, arguments) MEASURED_AS(uint8_t, name, parameters, arguments)
+#define MEASURED_AS(kind, name, parameters, arguments) \
+    kind __real_fitrec_##name parameters; \
+    kind __wrap_fitrec_##name parameters { \
         static struct measured call = {#name, 0, NULL}; \
         paint_below(__builtin_frame_address(0)); \
-        uint8_t answer = __real_fitrec_##name arguments; \
+        kind answer = __real_fitrec_##name arguments; \
         note(&call, __builtin_frame_address(0)); \
         return answer; \
     }
@@ -98,6 +87,22 @@ MEASURED(recover_begin, (recovery_at it, plan_at plan), (it, plan))
 MEASURED(recover_next, (recovery_at it, plan_at plan), (it, plan))
 MEASURED(reopen_next, (recovery_at it, recorder_at recorder, plan_at plan), (it, recorder, plan))
 MEASURED(erase_next, (recovery_at it, plan_at plan), (it, plan))
+
+/* Those of a session are put in their places in a program of its own, where those below are not. */
+typedef struct fitrec_session *session_at;
+#define OF_A_SESSION(name, parameters, arguments) MEASURED_AS(enum fitrec_answer, name, parameters, arguments)
+
+OF_A_SESSION(boot, (session_at it, const struct fitrec_device *device, uint32_t clock, struct fitrec_found *found), (it, device, clock, found))
+OF_A_SESSION(begin, (session_at it, uint32_t clock, uint32_t serial, uint8_t sport), (it, clock, serial, sport))
+OF_A_SESSION(add, (session_at it, const struct fitrec_sample *sample), (it, sample))
+OF_A_SESSION(lap, (session_at it, uint32_t clock), (it, clock))
+OF_A_SESSION(pause, (session_at it, uint32_t clock), (it, clock))
+OF_A_SESSION(resume, (session_at it, uint32_t clock), (it, clock))
+OF_A_SESSION(store, (session_at it), (it))
+OF_A_SESSION(end, (session_at it, uint32_t clock), (it, clock))
+OF_A_SESSION(clear, (session_at it), (it))
+OF_A_SESSION(go_on, (session_at it, uint32_t clock, struct fitrec_found *found), (it, clock, found))
+OF_A_SESSION(set_clock, (session_at it, uint32_t clock), (it, clock))
 
 static void report(void) {
     const uint8_t *at = fitrec_memory;

@@ -7,13 +7,29 @@
    - No pointer is NULL, and no two buffers or numbers of one call overlap.
    - A buffer has as many bytes as its size argument says, and all of them may be read.
 
-   The library takes no memory, keeps none between calls, and calls nothing but memcpy, memmove and memset. So calls on different buffers
-   may run at the same time in any threads. On x86-64 a repair and a save need 40 KB of stack, a text and JSON 84 KB,
-   columns 50 KB, fields and values 68 KB, and the other calls 16 KB. */
+   Threads. A call touches nothing but what it is given: the library has no variables, takes no memory, keeps none between calls, and calls
+   nothing but memcpy, memmove and memset. So any calls may run at the same time in any threads, also over the same bytes, as long as no
+   call writes what another one reads or writes.
+
+   Stack. On x86-64 a thread with 96 KB has enough for every call. Of it they take at most these, beside some 3,000 where the system first
+   links memcpy in a call:
+
+       84,000 bytes   fitrec_show, fitrec_json
+       58,000 bytes   fitrec_columns, fitrec_fields, fitrec_values
+       17,000 bytes   fitrec_shift, fitrec_shift_start
+       14,000 bytes   fitrec_save, fitrec_plain
+       12,000 bytes   fitrec_finish
+        7,000 bytes   fitrec_repair, fitrec_skip
+        1,500 bytes   the others
+
+   Limits. What a call makes goes into a buffer of the caller, and never past its size. So that size is the most that a caller allows,
+   whatever the bytes of the file are: where more would be made, the answer is one of NO_ROOM, NO_CLOSING_ROOM and MORE_PIECES. The work
+   grows with the size of the file, for which a caller sets a limit before the call. */
 
 #ifndef FITREC_H
 #define FITREC_H
 
+#include "fitrec_device.h" /* a recorder in a device, and the answers 7 and 8 that both have */
 #include <stdbool.h>
 #include <stddef.h>
 #include <stdint.h>
@@ -64,8 +80,8 @@ struct fitrec_summary {
    fitrec_show a number that is not named for an answer stays as it was. */
 enum {
     FITREC_REPAIRED = 0,
-    FITREC_NOTHING_RECORDED = 7, /* nothing was committed */
-    FITREC_DAMAGED = 8,          /* the two are not the files of one recording */
+    /* FITREC_NOTHING_RECORDED = 7: nothing was committed */
+    /* FITREC_DAMAGED = 8: the two are not the files of one recording */
     FITREC_BAD_LENGTH = 9,       /* a length is greater than its buffer */
     FITREC_NO_CLOSING_ROOM = 10, /* the data file's buffer is too small */
     FITREC_CHANGED = 16          /* the bytes that the last commit counts have changed since; see fitrec_leave_changed */
@@ -182,8 +198,9 @@ uint8_t fitrec_skip(const uint8_t *bytes, size_t size, bool all, uint8_t *out, s
    bytes, size   the files */
 uint64_t fitrec_first_file(const uint8_t *bytes, size_t size);
 
-/* Why bytes are no FIT file, as fitrec_check, fitrec_finish, fitrec_show and fitrec_plain answer it. Each comes with the place of the fault, an offset in bytes: the
-   first item or number that is wrong. If several faults hold, it is the one that the first bytes show. */
+/* Why bytes are no FIT file, as fitrec_check, fitrec_finish, fitrec_plain, fitrec_shift, fitrec_show and others answer it. Each comes with
+   the place of the fault, an offset in bytes: the first item or number that is wrong. If several faults hold, it is the one that the first
+   bytes show. */
 enum {
     FITREC_TRUNCATED = 1,       /* the bytes end before the closing checksum is whole */
     FITREC_HEADER_SIZE = 2,     /* byte 0 is not 12 or 14 */
@@ -254,6 +271,36 @@ enum {
     FITREC_PLAIN_TOO_LONG = 21 /* the new file would be too large, or a definition in it would have 256 fields */
 };
 uint8_t fitrec_plain(const uint8_t *bytes, size_t size, uint8_t *out, size_t out_size, uint64_t *out_len, uint64_t *fault_place);
+
+/* Moves every time of a FIT file by the same number of seconds, such as those of a device whose clock was wrong: field 253 of each message,
+   and the fields that hold a time by the Profile, in UTC or of the place. The new file is in its plain form, and as long as fitrec_plain
+   makes it.
+
+   bytes, size   the file
+   seconds       by how much; later if positive, earlier if negative
+   out, out_size the buffer of the new file
+   out_len       how many bytes the new file has, after 0 and FITREC_SHIFT_NO_ROOM
+   fault_place   the place of the fault, after 1 to 9; after FITREC_SHIFT_TOO_FAR that of the first message with such a time
+
+   Answers 0, one of 1 to 9 above, or one of these. After FITREC_SHIFT_NO_ROOM the bytes of out may have changed. */
+enum {
+    FITREC_SHIFTED = 0,
+    FITREC_SHIFT_NO_ROOM = 20,  /* the new file has no room in out */
+    FITREC_SHIFT_TOO_LONG = 21, /* the new file would be too large, or a definition in it would have 256 fields */
+    FITREC_SHIFT_NO_TIME = 27,  /* no message has a time, so the ride has no beginning; only of fitrec_shift_start */
+    FITREC_SHIFT_TOO_FAR = 28   /* a time would be below 0, or 4294967295 or more */
+};
+uint8_t fitrec_shift(const uint8_t *bytes, size_t size, int64_t seconds, uint8_t *out, size_t out_size, uint64_t *out_len,
+                     uint64_t *fault_place);
+
+/* Moves every time of a FIT file as fitrec_shift does, so that the ride begins at a time. It begins with the first record that has a time,
+   or else with the first message that has one.
+
+   start         the time, in seconds since 1989-12-31 00:00 UTC
+
+   The rest, and the answers, are those of fitrec_shift. */
+uint8_t fitrec_shift_start(const uint8_t *bytes, size_t size, uint32_t start, uint8_t *out, size_t out_size, uint64_t *out_len,
+                           uint64_t *fault_place);
 
 /* Writes the text of a FIT file: a line for its header, one for each message, and one that counts them, as docs/FORMAT.md describes it.
    It is ASCII, lines end with a line feed, and no zero byte follows.
@@ -367,214 +414,6 @@ enum {
 uint8_t fitrec_values(const uint8_t *bytes, size_t size, uint16_t message, const uint32_t *fields, size_t field_count, size_t room,
                       struct fitrec_value *heads, size_t heads_size, uint8_t *values, size_t values_size, uint64_t *rows,
                       uint64_t *values_len, uint64_t *fault_place);
-
-/* A recorder in a device.
-
-   The library is crates/fit_device of fitrec; docs/PROOFS.md says what is proved of it. The device keeps the recorder as plain numbers and
-   carries out the calls of its two files, activity.fit and activity.frj, itself. Each step of the recorder fills a plan of at most
-   FITREC_MOST_CALLS calls. A step takes no memory, makes no call of its own, and never waits.
-
-   The host keeps these rules. Each is needed: without it a ride that was answered as committed may be lost.
-
-   - It carries out each plan whole and in order, before it makes the next step, and before it reports the answer of the step to anybody.
-   - A write puts its bytes at its place and touches no byte outside. A cut makes the file as long as it says. A sync returns only when all
-     that was written to the file is kept through a power cut, with its length.
-   - At the first call that fails it makes no further step with this handle, and drops it. The ride goes on through fitrec_reopen, or ends
-     with fitrec_recover.
-   - Both files keep their names, and nobody else writes them.
-   - It changes nothing in the handle.
-   - After a reset that is no sleep (power, watchdog, brown-out) it drops the handle, and reopens or recovers the ride: the handle may be
-     ahead of the files. A copy of a handle counts only if it is the latest one and its plan was carried out whole.
-
-   A handle may lie in memory that is kept while the device sleeps. If the memory was lost, or holds anything else, the mark and the check
-   code do not fit, and every step answers FITREC_NO_RECORDER: then the host reopens the ride. They do not show that a copy is old. */
-
-#define FITREC_MOST_CALLS 12
-#define FITREC_MOST_BYTES 896
-
-/* The most bytes of a data file in which only a start was begun. If it has no more, and the answer is FITREC_NOTHING_RECORDED, nothing is
-   lost: erase it, and start. */
-#define FITREC_LONGEST_START 86
-
-/* The two files. */
-enum { FITREC_DATA_FILE = 0, FITREC_JOURNAL_FILE = 1 };
-
-/* The kinds of calls. */
-enum { FITREC_WRITE = 1, FITREC_CUT = 2, FITREC_SYNC = 3 };
-
-/* A call: the bytes of a write are count bytes of the plan from start on. */
-struct fitrec_call {
-    uint64_t at;    /* the place of a write in its file, or the length that a cut leaves */
-    uint16_t start;
-    uint16_t count;
-    uint8_t kind;
-    uint8_t file;
-};
-
-/* The first count calls are to be carried out, in order. */
-struct fitrec_plan {
-    uint32_t count;
-    uint32_t used; /* how many of the bytes belong to the calls */
-    struct fitrec_call calls[FITREC_MOST_CALLS];
-    uint8_t bytes[FITREC_MOST_BYTES];
-};
-
-/* A recorder. Its numbers are the library's. */
-struct fitrec_recorder {
-    uint64_t numbers[191];
-};
-
-/* A recovery, a reopening or an erasing that reads the files by windows. */
-struct fitrec_recovery {
-    uint64_t data_size;    /* the lengths of the data file and the journal in bytes; set them before fitrec_recover_begin */
-    uint64_t journal_size;
-    uint64_t at;           /* what is asked for: count bytes of file from at on; fewer only where the file ends */
-    uint8_t file;          /* 0: the data file, 1: the journal */
-    uint8_t phase;         /* the library's own */
-    uint16_t count;
-    uint16_t filled;       /* how many bytes you read into the window */
-    uint8_t window[512];
-    uint64_t numbers[226]; /* the library's own */
-};
-
-/* Which values a sample has: the sum of some of these. */
-enum {
-    FITREC_HAS_LAT = 1,
-    FITREC_HAS_LON = 2,
-    FITREC_HAS_POSITION = FITREC_HAS_LAT | FITREC_HAS_LON,
-    FITREC_HAS_DISTANCE = 4,
-    FITREC_HAS_ENHANCED_SPEED = 8,
-    FITREC_HAS_ENHANCED_ALTITUDE = 16,
-    FITREC_HAS_ALTITUDE = 32,
-    FITREC_HAS_SPEED = 64,
-    FITREC_HAS_POWER = 128,
-    FITREC_HAS_HEART_RATE = 256,
-    FITREC_HAS_CADENCE = 512,
-    FITREC_HAS_TEMPERATURE = 1024
-};
-
-/* The values of the sensors at one time. What is not named in has is absent, so a sample of zeros has no values. A value that is the
-   greatest number of its type, such as UINT16_MAX, is absent too. A device gives speed or enhanced_speed, and altitude or
-   enhanced_altitude, whichever it measures. */
-struct fitrec_sample {
-    uint32_t time;              /* seconds since 1989-12-31 00:00 UTC */
-    int32_t lat;                /* semicircles: 2^31 of them are 180 degrees */
-    int32_t lon;                /* semicircles */
-    uint32_t distance;          /* centimetres since the start */
-    uint32_t enhanced_speed;    /* millimetres a second */
-    uint32_t enhanced_altitude; /* fifths of a metre above -500 m */
-    uint32_t has;               /* which of the values are there */
-    uint16_t altitude;          /* fifths of a metre above -500 m */
-    uint16_t speed;             /* millimetres a second */
-    uint16_t power;             /* watts */
-    uint8_t heart_rate;         /* beats a minute */
-    uint8_t cadence;            /* turns or steps a minute */
-    int8_t temperature;         /* degrees Celsius */
-};
-
-/* Where a ride stands: what the next entry has to follow. */
-struct fitrec_state {
-    uint32_t time;     /* of the last entry, in seconds since 1989-12-31 00:00 UTC: no later entry is before it */
-    uint32_t distance; /* the last distance in centimetres since the start, or 0: no later one is below it */
-    uint16_t laps;     /* how many laps were handed */
-    uint8_t running;   /* 1 while the timer runs, 0 after a pause */
-    uint8_t stopped;   /* 1 after the stop */
-};
-
-/* Answers of a step. After every answer but FITREC_OK the plan is empty, and the recorder is as it was; but fitrec_start and fitrec_reopen
-   then leave no recorder in the handle, unless the answer is FITREC_NO_SPORT, and fitrec_recover_begin plans two syncs. A plan has room for
-   all calls of a step, so none fails for want of it. docs/EMBEDDING.md says what to do after each. */
-enum {
-    FITREC_OK = 0,
-    FITREC_NOT_EMPTY = 1,    /* start: the data file has bytes */
-    FITREC_FULL = 3,         /* the ride has its longest size; commit and stop still work */
-    FITREC_JOURNAL_FULL = 4, /* only in a ride of an older recorder; never in one that fitrec_start began, reopened or not */
-    FITREC_DEVICE = 5,       /* by windows: a window has less than was asked for, or an older recorder's journal is too long for one */
-    /* 7 and 8, as of a repair: FITREC_NOTHING_RECORDED, FITREC_DAMAGED */
-    FITREC_NO_RECORDER = 11, /* the handle is none of a recorder */
-    FITREC_NO_SPORT = 12,    /* start: no sport has this number */
-    FITREC_ERASING = 14,     /* recovery, reopening: an erasing was cut off; erase again, and start */
-    /* Refused by a rule; nothing changed. */
-    FITREC_REFUSED_TIME = 33,          /* below the last time, or 0xFFFFFFFF; a start may have 0x10000000 to 0xFFFFFFFE */
-    FITREC_REFUSED_DISTANCE = 34,      /* below the last distance */
-    FITREC_REFUSED_VALUE = 35,         /* a value is the invalid one of its field */
-    FITREC_REFUSED_TIMER_STOPPED = 36, /* a sample or a pause while the timer is stopped */
-    FITREC_REFUSED_TIMER_RUNNING = 37, /* a resume while the timer runs */
-    FITREC_REFUSED_TOO_LONG = 38,      /* more than 4,000,000 seconds after the start */
-    FITREC_REFUSED_TOO_MANY_LAPS = 39, /* after 999 others */
-    FITREC_REFUSED_STOPPED = 40        /* the ride has its stop; after a reopening recover it */
-};
-
-/* The answer of a call by windows that goes on: read count bytes of file from at on into window, say in filled how many there were, and
-   make the next call. */
-#define FITREC_NEEDS_WINDOW 13
-
-/* Begins a ride on an empty data file. data_size is the length of activity.fit in bytes, also if that is to be 0; time in seconds since
-   1989-12-31 00:00 UTC; serial of the device, or 0; sport 0 generic, 1 running, 2 cycling. At most 11 calls; after them the start is
-   committed. */
-uint8_t fitrec_start(struct fitrec_recorder *recorder, size_t data_size, uint32_t time, uint32_t serial, uint8_t sport,
-                     struct fitrec_plan *plan);
-
-/* Hands an entry to the recorder. At most one call. A power cut loses the entry unless it is committed. */
-uint8_t fitrec_add_sample(struct fitrec_recorder *recorder, const struct fitrec_sample *sample, struct fitrec_plan *plan);
-uint8_t fitrec_add_lap(struct fitrec_recorder *recorder, uint32_t time, struct fitrec_plan *plan);
-uint8_t fitrec_pause_timer(struct fitrec_recorder *recorder, uint32_t time, struct fitrec_plan *plan);
-uint8_t fitrec_resume_timer(struct fitrec_recorder *recorder, uint32_t time, struct fitrec_plan *plan);
-
-/* Commits all entries so far. At most 8 calls; after them every recovery keeps these entries. */
-uint8_t fitrec_commit(struct fitrec_recorder *recorder, struct fitrec_plan *plan);
-
-/* Ends the ride. At most 12 calls; after them the data file is a finished FIT file. Before the next start keep it under another name, or
-   copy it away and erase it. */
-uint8_t fitrec_stop(struct fitrec_recorder *recorder, uint32_t time, struct fitrec_plan *plan);
-
-/* Reports where the ride stands, such as after a reopening. It plans nothing. Answers 0 or FITREC_NO_RECORDER. */
-uint8_t fitrec_state_of(const struct fitrec_recorder *recorder, struct fitrec_state *state);
-
-/* After a power cut. These three read both files where they lie, for example in flash that the processor can address: data and journal are
-   all that reads of the files give. The files may change only by the plan. Each may be cut off anywhere, and begun anew. */
-
-/* Makes the data file the finished file of everything that was committed. At most 6 calls. It does not end the ride: until an erasing
-   fitrec_reopen goes on with it. */
-uint8_t fitrec_recover(const uint8_t *data, size_t data_size, const uint8_t *journal, size_t journal_size, struct fitrec_plan *plan);
-
-/* Makes a recorder that continues the ride as it was committed, and cuts off what comes after that. At most 4 calls. Answers
-   FITREC_REFUSED_STOPPED if the ride has its stop. */
-uint8_t fitrec_reopen(struct fitrec_recorder *recorder, const uint8_t *data, size_t data_size, const uint8_t *journal, size_t journal_size,
-                      struct fitrec_plan *plan);
-
-/* Empties the data file for the next start; the ride is gone. At most 6 calls. */
-uint8_t fitrec_erase(const uint8_t *data, size_t data_size, const uint8_t *journal, size_t journal_size, struct fitrec_plan *plan);
-
-/* After a power cut, where the processor cannot address the files: a recovery, a reopening and an erasing that need only a window of 512
-   bytes at a time.
-
-   The host sets the recovery to zeros, and data_size and journal_size to the lengths of the files. It calls fitrec_recover_begin, and then
-   again and again one of fitrec_recover_next, fitrec_reopen_next and fitrec_erase_next. After each call it carries out the plan, whole and
-   in order. As long as the answer is FITREC_NEEDS_WINDOW, it then reads the window that is asked for, and calls on. Any other answer is the
-   end, and that of fitrec_recover, fitrec_reopen or fitrec_erase. The host keeps these rules too:
-
-   - The recovery stays as it is between two calls, but for window and filled.
-   - The files change only by the plans.
-   - A read that fails ends the recovery, and it is begun anew.
-
-   It may be cut off anywhere, and begun anew. A recovery and a reopening answer FITREC_DEVICE if a window has less than was asked for, and if
-   the journal is a row of slots of an older recorder and longer than 512 bytes: give fitrec_recover or fitrec_reopen the whole files. */
-
-/* Begins a recovery, a reopening or an erasing. 2 calls, which sync both files. */
-uint8_t fitrec_recover_begin(struct fitrec_recovery *recovery, struct fitrec_plan *plan);
-
-/* Goes on with the window, to a recovery. The plan is empty after FITREC_NEEDS_WINDOW; at the end it finishes the data file, with at most 4 calls.
-   Answers FITREC_NO_RECORDER, and changes nothing, if the recovery is none that was begun. */
-uint8_t fitrec_recover_next(struct fitrec_recovery *recovery, struct fitrec_plan *plan);
-
-/* The same, to a reopening. Until the answer is FITREC_OK the recorder stays as it is. After that it continues the ride as it was committed,
-   and the plan cuts off what comes after that, with at most 2 calls. */
-uint8_t fitrec_reopen_next(struct fitrec_recovery *recovery, struct fitrec_recorder *recorder, struct fitrec_plan *plan);
-
-/* Ends an erasing, with the first window, which is of the journal. At most 6 calls. With a later window, or if the recovery is none that was
-   begun, it answers FITREC_NO_RECORDER and changes nothing. */
-uint8_t fitrec_erase_next(struct fitrec_recovery *recovery, struct fitrec_plan *plan);
 
 #ifdef __cplusplus
 }

@@ -3,11 +3,11 @@ _fitrec() {
     local word=${COMP_WORDS[COMP_CWORD]} options=
     COMPREPLY=()
     if [ "$COMP_CWORD" -eq 1 ]; then
-        COMPREPLY=($(compgen -W 'show table check replay record save repair salvage split plain simulate version help --help' -- "$word"))
+        COMPREPLY=($(compgen -W 'show table check replay record save repair salvage split plain shift join simulate version help --help' -- "$word"))
         return
     fi
     case ${COMP_WORDS[1]} in
-        help) COMPREPLY=($(compgen -W 'show table check replay record save repair salvage split plain simulate version' -- "$word")); return ;;
+        help) COMPREPLY=($(compgen -W 'show table check replay record save repair salvage split plain shift join simulate version' -- "$word")); return ;;
         show) options='--utc --json --profile --gpx --help' ;;
         table) options='--utc --raw --profile --message --fields --each --null --help' ;;
         check) options='--each --null --json --help' ;;
@@ -18,6 +18,8 @@ _fitrec() {
         salvage) options='--all --skip --like --plain --finish --help' ;;
         split) options='--all --help' ;;
         plain) options='--help' ;;
+        shift) options='--by --start --help' ;;
+        join) options='--as-given --help' ;;
         simulate) options='--checked --choices --help' ;;
         version) options='--help' ;;
     esac

@@ -1,5 +1,5 @@
 // Keeps the page where it is served, so that it opens without a connection. A new version of the page is a new name.
-const NAME = 'fitrec-249daf1c4c654816', FILES = ['fitrec.html', 'manifest.webmanifest', 'icon.svg'];
+const NAME = 'fitrec-b2a8c54b7e04a174', FILES = ['fitrec.html', 'manifest.webmanifest', 'icon.svg'];
 
 addEventListener('install', event => {
   event.waitUntil(caches.open(NAME).then(cache => cache.addAll(FILES)).then(() => skipWaiting()));
@@ -10,6 +10,14 @@ addEventListener('activate', event => {
   event.waitUntil(old().then(it => Promise.all(it)).then(() => clients.claim()));
 });
 
-addEventListener('fetch', event => {
-  event.respondWith(caches.open(NAME).then(cache => cache.match(event.request)).then(kept => kept || fetch(event.request)));
-});
+// The page is the same under every query. Where the folder itself is opened, what a server gives there goes first.
+const isFolder = ({ mode, url }) => mode === 'navigate' && url.split(/[?#]/)[0] === registration.scope;
+
+async function answerTo(request) {
+  const cache = await caches.open(NAME);
+  if (!isFolder(request)) return await cache.match(request, { ignoreSearch: true }) || fetch(request);
+  const given = await fetch(request).catch(() => null);
+  return given && given.ok ? given : cache.match('fitrec.html');
+}
+
+addEventListener('fetch', event => event.respondWith(answerTo(event.request)));

@@ -1,42 +1,19 @@
 // The curves of a ride over one axis of time, and what is read from them at a time.
 
-// The text of a value of a series in its unit.
-const UNITS = { speed: 'kmh', heart: 'bpm', height: 'metres', power: 'watts', cadence: 'rpm', warmth: 'degrees' };
-const DIGITS = { speed: 1 };
-const valueText = (name, n) => text(UNITS[name], { n: numberText(n, DIGITS[name] || 0) });
+import { make, path, placed, svg } from './dom.js';
+import { bareText, clockText, dateOf, distanceText, isDated, isPace, momentText, nameText, numberText, text, unitOf, valueText,
+  zoneText } from './formats.js';
+import { niceStep } from './grid.js';
+import { followTrack, pointAt } from './track.js';
 
-function make(name, attributes = {}, ...children) {
-  const made = document.createElement(name);
-  for (const [key, value] of Object.entries(attributes)) {
-    if (key in made) made[key] = value; else made.setAttribute(key, value);
+// The marks of the axis of time: their places in hundredths and their texts, at whole minutes or hours of the clock, or at round numbers of
+// samples.
+function timeMarks({ time, isUntimed }, wanted) {
+  const begin = time[0], end = time[time.length - 1];
+  if (isUntimed) {
+    const step = Math.max(1, niceStep(begin, end, wanted)), count = Math.floor((end + 1) / step);
+    return Array.from({ length: count }, (_, k) => ({ at: ((k + 1) * step - 1) / (end || 1) * 100, text: numberText((k + 1) * step) }));
   }
-  made.append(...children.filter(it => it !== null && it !== undefined));
-  return made;
-}
-
-function svg(attributes, ...children) {
-  const made = document.createElementNS('http://www.w3.org/2000/svg', 'svg');
-  for (const [key, value] of Object.entries(attributes)) made.setAttribute(key, value);
-  made.append(...children);
-  return made;
-}
-
-function path(kind, d) {
-  const made = document.createElementNS('http://www.w3.org/2000/svg', 'path');
-  made.setAttribute('class', kind);
-  made.setAttribute('d', d);
-  return made;
-}
-
-// Something at a place of a picture, in hundredths of its width and height.
-function placed(element, left, top) {
-  if (left !== null) element.style.left = left + '%';
-  if (top !== null) element.style.top = top + '%';
-  return element;
-}
-
-// The marks of the axis of time: their places in hundredths and their texts, at whole minutes or hours of the clock.
-function timeMarks(begin, end, wanted) {
   const seconds = end - begin || 1, steps = [1, 2, 5, 10, 15, 30, 60, 120, 300, 600, 900, 1800, 3600, 7200, 10800, 21600, 43200];
   const step = steps.find(it => seconds / it <= wanted) || 86400 * Math.ceil(seconds / 86400 / wanted);
   const shift = isDated(begin) ? -60 * dateOf(begin).getTimezoneOffset() : -begin, marks = [];
@@ -47,40 +24,63 @@ function timeMarks(begin, end, wanted) {
 }
 
 // A picture for each series.
-function chartsOf(ride) {
-  const begin = ride.time[0], end = ride.time[ride.time.length - 1], isNarrow = matchMedia('(max-width: 40rem)').matches;
-  const marks = timeMarks(begin, end, isNarrow ? 5 : 9);
+/** @param {Drawn} ride @returns {HTMLElement[]} */
+export function chartsOf(ride) {
+  const marks = timeMarks(ride, matchMedia('(max-width: 40rem)').matches ? 5 : 9);
   return ride.series.filter(it => it.curve).map(it => chartOf(it, marks, ride));
 }
 
-function chartOf({ name, low, high, average, faults, curve }, marks, ride) {
-  const shown = [low, average, high].map(n => valueText(name, n)), digits = DIGITS[name] || 0;
-  const across = marks.map(it => `M${it.at * 12} 0V100`).join(''), span = curve.high - curve.low;
-  const y = n => (curve.high - n) / span * 100, down = curve.lines.map(n => `M0 ${y(n)}H1200`).join('');
-  const label = text('curveLabel', { name: text(name), low: shown[0], average: shown[1], high: shown[2],
-    from: momentText(ride.time[0]), to: momentText(ride.time[ride.time.length - 1]) });
+// The lines of a grid in the unit that is shown, each with its height in hundredths and its text. Paces stand at round speeds.
+function linesIn(name, { low, high, lines }) {
+  const { to, from } = unitOf(name), step = niceStep(to(low), to(high), 5), first = Math.ceil(to(low) / step - 1e-9);
+  const own = Array.from({ length: Math.floor(to(high) / step + 1e-9) - first + 1 }, (_, k) => from((first + k) * step));
+  const shown = to(low) === low && to(high) === high ? lines : own;
+  const decimals = shown.some(n => Math.abs(to(n) - Math.round(to(n))) > 1e-6) ? 1 : 0;
+  return shown.map(n => ({ at: (high - n) / (high - low) * 100, text: bareText(name, n, decimals) }));
+}
+
+// The line under a series: what it is at least, on average and at most; and what the file's own summary says of that, if it differs.
+/** @param {Partial<Series>} series */
+export function factsOf({ name, low, average, high, inMotion, mean }) {
+  const [own, moving, byDevice] = [average, inMotion, mean].map(n => n > 0 || n < 0 ? valueText(name, n) : null);
+  const differs = mean && Math.abs(mean - average) > Math.abs(average) / 100 && byDevice !== own && byDevice !== moving;
+  const facts = name === 'speed' && isPace() ? 'paceFacts' : 'facts';
+  const said = [text(facts, { low: bareText(name, low), average: bareText(name, average), high: valueText(name, high) })];
+  if (moving && moving !== own) said.push(text('inMotion', { n: moving }));
+  if (differs) said.push(text('byDevice', { n: byDevice }));
+  return said.join(' · ');
+}
+
+/** @param {Series} series @param {{ at: number, text: string }[]} marks @param {Drawn} ride */
+function chartOf({ name, low, high, average, faults, curve, inMotion, mean }, marks, ride) {
+  const shown = [low, average, high].map(n => valueText(name, n)), lines = linesIn(name, curve), last = ride.time.length - 1;
+  const across = marks.map(it => `M${it.at * 12} 0V100`).join(''), down = lines.map(it => `M0 ${it.at}H1200`).join('');
+  const label = text('curveLabel', { name: nameText(name), low: shown[0], average: shown[1], high: shown[2],
+    from: atText(ride, 0), to: atText(ride, last) });
   const drawn = svg({ viewBox: '0 0 1200 100', preserveAspectRatio: 'none', role: 'img', 'aria-label': label },
     path('grid', across + down), path('bars ' + name, curve.bars), path('curve ' + name, curve.line));
-  drawn.dataset.low = curve.low;
-  drawn.dataset.high = curve.high;
-  const decimals = curve.lines.some(n => Math.abs(n - Math.round(n)) > 1e-6) ? 1 : 0;
-  const heights = curve.lines.map(n => placed(make('span', { className: 'height' }, numberText(n, decimals)), null, y(n)));
+  Object.assign(drawn.dataset, { low: curve.low, high: curve.high });
+  const heights = lines.map(it => placed(make('span', { className: 'height' }, it.text), null, it.at));
   const times = marks.filter(it => it.at >= 2 && it.at <= 97).map(it => placed(make('span', { className: 'time' }, it.text), it.at, null));
   const plot = make('div', { className: 'plot' }, drawn, make('div', { className: 'cursor', hidden: true }));
-  const facts = text('facts', { low: numberText(low, digits), average: numberText(average, digits), high: shown[2] });
+  const facts = factsOf({ name, low, average, high, inMotion, mean });
   return make('figure', { className: 'chart' },
-    make('figcaption', {}, make('strong', { className: name }, text(name)), make('span', {}, ...inParts(facts))),
+    make('figcaption', {}, make('strong', { className: name }, nameText(name)), make('span', {}, ...inParts(facts))),
     make('div', { className: 'axes' }, make('div', { className: 'heights', 'aria-hidden': true }, ...heights), plot,
-      make('div', { className: 'zone', 'aria-hidden': true }, zoneText(ride.time[0])),
+      make('div', { className: 'zone', 'aria-hidden': true }, ride.isUntimed ? '' : zoneText(ride.time[0])),
       make('div', { className: 'times', 'aria-hidden': true }, ...times)),
     faults ? make('p', { className: 'note' }, text(faults === 1 ? 'oneFault' : 'faults', { count: faults })) : null);
 }
+
+// The time of a sample, or its number where none has a time.
+const atText = ({ time, isUntimed }, i) => isUntimed ? text('sampleAt', { n: i + 1 }) : momentText(time[i]);
 
 // A line of parts, which is broken between them alone.
 const inParts = line => line.split(' · ').flatMap((it, k) => [k ? ' · ' : '', make('span', {}, it)]);
 
 // The reading of all series at one time: by the pointer, a finger, or the keys of a slider.
-function readerOf(ride, pictures) {
+/** @param {Drawn} ride @param {HTMLElement} pictures */
+export function readerOf(ride, pictures) {
   const { time, series, distance } = ride, begin = time[0], seconds = time[time.length - 1] - begin;
   if (!(seconds > 0)) return null;
   const values = make('p', { className: 'values' }), cursors = [...pictures.querySelectorAll('.cursor')];
@@ -88,16 +88,17 @@ function readerOf(ride, pictures) {
   values.append(make('span', {}, text(matchMedia('(pointer: coarse)').matches ? 'readTap' : 'readPoint')));
   let at = 0;
   const show = i => {
-    const parts = [momentText(time[i])];
+    const parts = [['', atText(ride, i)]];
     at = i;
-    if (distance[i] >= 0) parts.push(text('km', { n: numberText(distance[i] / 100000, 2) }));
-    for (const it of series) {
-      const k = lastWith(it.values, time, i);
-      if (k >= 0) parts.push(`${text(it.name)} ${valueText(it.name, it.values[k])}`);
+    if (distance[i] >= 0) parts.push(['', distanceText(distance[i])]);
+    for (const { name, values: own } of series) {
+      const k = lastWith(own, time, i);
+      if (k >= 0) parts.push([nameText(name) + ' ', valueText(name, own[k])]);
     }
-    values.replaceChildren(...parts.map(it => make('span', {}, it)));
+    // A narrow window has room for the values alone: their units tell them apart.
+    values.replaceChildren(...parts.map(([name, value]) => make('span', {}, make('span', { className: 'name' }, name), value)));
     slider.value = time[i] - begin;
-    slider.setAttribute('aria-valuetext', parts.join(', '));
+    slider.setAttribute('aria-valuetext', parts.map(it => it.join('')).join(', '));
     for (const it of cursors) placed(it, (time[i] - begin) / seconds * 100, null).hidden = false;
     pointAt(ride, pictures, i);
   };
@@ -106,7 +107,7 @@ function readerOf(ride, pictures) {
     const t = begin + Number(slider.value), i = nearest(time, t), step = t - time[at];
     show(i === at && Math.abs(step) <= 1 ? Math.min(time.length - 1, Math.max(0, at + Math.sign(step))) : i);
   });
-  slider.setAttribute('aria-valuetext', momentText(begin));
+  slider.setAttribute('aria-valuetext', atText(ride, 0));
   for (const plot of pictures.querySelectorAll('.plot')) {
     const follow = event => {
       const { left, width } = plot.getBoundingClientRect();

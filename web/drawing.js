@@ -1,13 +1,10 @@
 // The lines of a ride, as paths of SVG: a curve of each series over time, and the track.
 
+import { niceStep } from './grid.js';
+import { extremesOf, plausible, sampleAt } from './ranges.js';
+
 // A picture of a curve has so many columns, and is so high; the page stretches it. A track has at most these sides.
 const COLUMNS = 1200, CURVE = 100, TRACK = { width: 1000, least: 360, most: 760, edge: 45 }, CLASSES = 8;
-
-// A step of 1, 2 or 5 times a power of ten, with about so many from low to high.
-function niceStep(low, high, count) {
-  const rough = Math.max(high - low, 1e-9) / count, power = 10 ** Math.floor(Math.log10(rough));
-  return power * [1, 2, 5, 10].find(it => it * power >= rough * 0.999);
-}
 
 // The range of a curve, from one line of its grid to another, and these lines.
 function gridOf(from, to, least) {
@@ -18,25 +15,27 @@ function gridOf(from, to, least) {
 }
 
 // The first sample of each column but the first. Samples are in the order of time.
-function columnsOf(time) {
+/** @param {Float64Array} time @returns {number[]} */
+export function columnsOf(time) {
   const begin = time[0], seconds = time[time.length - 1] - begin || 1;
   return Array.from({ length: COLUMNS - 1 }, (_, k) => sampleAt(time, begin + (k + 1) * seconds / COLUMNS));
 }
 
 // A curve: a line through the average of each column, and for each column with several values a bar from its least to its greatest. After a
 // break in a column its values are a part of their own.
-function curveOf(time, { parts, breaks, from, to, least }) {
+/** @param {Float64Array} time @param {Series} series @returns {Curve} */
+export function curveOf(time, { parts, breaks, from, to, least }) {
   const begin = time[0], seconds = time[time.length - 1] - begin || 1, drawn = [];
   let last = null, k = 0;
-  for (const it of parts) {
-    const column = Math.min(Math.floor((time[it.first] - begin) * COLUMNS / seconds), COLUMNS - 1), passed = k;
-    while (k < breaks.length && breaks[k] <= it.first) k++;
+  for (const part of parts) {
+    const column = Math.min(Math.floor((time[part.first] - begin) * COLUMNS / seconds), COLUMNS - 1), passed = k;
+    while (k < breaks.length && breaks[k] <= part.first) k++;
     if (last && last.column === column && k === passed) {
-      last.low = Math.min(last.low, it.low);
-      last.high = Math.max(last.high, it.high);
-      last.sum += it.sum;
-      last.seconds += it.seconds;
-    } else drawn.push(last = { ...it, column, isBegin: !last || k > passed });
+      last.low = Math.min(last.low, part.low);
+      last.high = Math.max(last.high, part.high);
+      last.sum += part.sum;
+      last.seconds += part.seconds;
+    } else drawn.push(last = { ...part, column, isBegin: !last || k > passed });
   }
   const grid = gridOf(from, to, least);
   return { ...grid, ...linesOf(drawn, grid) };
@@ -55,7 +54,8 @@ function linesOf(parts, grid) {
 
 // The track, with a path for each class of each series that can colour it, and what leads from degrees to its picture. North is up.
 // Longitudes go on beyond 180 degrees; `long` is changed to them.
-function trackOf({ lat, long, series, breaks }) {
+/** @param {{ lat: Float64Array, long: Float64Array, series: Series[], breaks: number[] }} ride @returns {Track | null} */
+export function trackOf({ lat, long, series, breaks }) {
   let last = NaN;
   for (let i = 0; i < long.length; i++) {
     if (long[i] !== long[i] || lat[i] !== lat[i]) long[i] = NaN;

@@ -8,15 +8,18 @@
 //
 // Files are given and answered as Uint8Array. What is refused is thrown as a FitError.
 
-const CLOSING_ROOM = 254, FINISH_ROOM = 287, FRAME_ROOM = 16, ABSENT = 0xFFFFFFFF, NO_ROOM = 20, MORE_PIECES = 25, PAGE = 65536;
+// What a call may add to a file; and answers of calls: that a buffer is too small, and that a time would be none.
+export const CLOSING_ROOM = 254, FINISH_ROOM = 287, FRAME_ROOM = 16, NO_ROOM = 20, MORE_PIECES = 25, TOO_FAR = 28;
+const ABSENT = 0xFFFFFFFF, PAGE = 65536;
 
-// Why bytes are no FIT file; why a file is no activity; why a ride is not saved, salvaged or finished.
+// Why bytes are no FIT file; why a file is no activity; why a ride is not saved, salvaged, moved or finished.
 const FAULTS = { 1: 'Truncated', 2: 'HeaderSize', 3: 'Magic', 4: 'Protocol', 5: 'HeaderCrc', 6: 'UndefinedLocal', 7: 'SplitMessage',
   8: 'FileCrc', 9: 'TrailingBytes' };
 const CHECKED = { ...FAULTS, 11: 'NoFileId', 12: 'NotActivity', 13: 'NoLap', 14: 'NoSession', 15: 'NoActivity' };
 const SAVED = { 7: 'NothingRecorded', 8: 'Damaged', 16: 'Changed' };
 const SALVAGED = { 1: 'Truncated', 2: 'HeaderSize', 3: 'Magic', 4: 'Protocol', 22: 'TooLarge' };
 const PLAIN = { ...FAULTS, 21: 'TooLong' };
+const SHIFTED = { ...PLAIN, 27: 'NoTime', [TOO_FAR]: 'TimeTooFar' };
 const FINISHED = { ...FAULTS, 12: 'NotActivity', 21: 'TooLarge', 26: 'NoSample' };
 
 // Why something was refused: its kind, such as 'Damaged', and the place in bytes, if a byte is at fault.
@@ -29,11 +32,11 @@ export class FitError extends Error {
 }
 
 function refuseUnless0(code, kinds, place) {
-  if (code) throw new FitError(kinds[code] || 'Unexpected' + code, code < 10 && kinds !== SAVED && kinds !== SALVAGED ? place : undefined);
+  if (code) throw new FitError(kinds[code] || 'Unexpected' + code, (code < 10 && kinds !== SAVED && kinds !== SALVAGED) || code === TOO_FAR ? place : undefined);
 }
 
 // The memory of a new instance, in which buffers lie one after another.
-class Memory {
+export class Memory {
   constructor({ exports }) {
     this.exports = exports;
     this.end = Number(exports.__heap_base.value);
@@ -85,20 +88,24 @@ class Memory {
 }
 
 // The calls of a module, which is given as its bytes or as a WebAssembly.Module.
+/**
+ * @typedef {Awaited<ReturnType<typeof open>>} Fitrec
+ * @param {BufferSource | WebAssembly.Module} source
+ */
 export async function open(source) {
   const module = source instanceof WebAssembly.Module ? source : await WebAssembly.compile(source);
-  const memory = async () => new Memory(await WebAssembly.instantiate(module));
+  const fresh = async () => new Memory(await WebAssembly.instantiate(module));
 
   // A file that a call writes; it is called again with more room if it needs that.
   async function written(name, kinds, file, room, ...before) {
     for (;;) {
-      const it = await memory(), at = it.put(file), out = it.room(room), length = it.number(), place = it.number();
-      const code = it.call(name, at, file.length, ...before, out, room, length, place);
+      const memory = await fresh(), at = memory.put(file), out = memory.room(room), length = memory.number(), place = memory.number();
+      const code = memory.call(name, at, file.length, ...before, out, room, length, place);
       if (code !== NO_ROOM) {
-        refuseUnless0(code, kinds, it.long(place));
-        return it.copy(out, it.long(length));
+        refuseUnless0(code, kinds, memory.long(place));
+        return memory.copy(out, memory.long(length));
       }
-      room = it.long(length);
+      room = memory.long(length);
     }
   }
 
@@ -106,64 +113,64 @@ export async function open(source) {
     // The ride of a recording, as a file with every time in full, its summary, and how many bytes of whole messages follow its last commit.
     // A file that is lent lies in the memory of the module, and is to be copied.
     async save(data, journal, isLent = false) {
-      const it = await memory(), room = data.length + CLOSING_ROOM, outRoom = 2 * data.length + 1024;
-      const atData = it.put(data, CLOSING_ROOM), length = it.number(data.length), atJournal = it.put(journal);
-      const journalLength = it.number(journal.length), out = it.room(outRoom), outLength = it.number(), summary = it.room(28);
-      const uncommitted = uncommittedAt(it, atData, data.length, atJournal, journal.length);
-      const code = it.call('fitrec_save', atData, room, length, atJournal, journal.length, journalLength, out, outRoom, outLength, summary);
-      const saved = { summary: it.summary(summary), uncommitted };
-      if (code === NO_ROOM) return { file: await fitrec.plain(it.copy(atData, it.long(length))), ...saved };
+      const memory = await fresh(), room = data.length + CLOSING_ROOM, outRoom = 2 * data.length + 1024;
+      const atData = memory.put(data, CLOSING_ROOM), length = memory.number(data.length), atJournal = memory.put(journal);
+      const journalLength = memory.number(journal.length), out = memory.room(outRoom), outLength = memory.number(), summary = memory.room(28);
+      const uncommitted = uncommittedAt(memory, atData, data.length, atJournal, journal.length);
+      const code = memory.call('fitrec_save', atData, room, length, atJournal, journal.length, journalLength, out, outRoom, outLength, summary);
+      const saved = { summary: memory.summary(summary), uncommitted };
+      if (code === NO_ROOM) return { file: await fitrec.plain(memory.copy(atData, memory.long(length))), ...saved };
       refuseUnless0(code, SAVED);
-      return { file: isLent ? it.part(out, it.long(outLength)) : it.copy(out, it.long(outLength)), ...saved };
+      return { file: isLent ? memory.part(out, memory.long(outLength)) : memory.copy(out, memory.long(outLength)), ...saved };
     },
 
     // The same with the times in the short form of recorders.
     async repair(data, journal) {
-      const it = await memory(), room = data.length + CLOSING_ROOM, atData = it.put(data, CLOSING_ROOM), length = it.number(data.length);
-      const atJournal = it.put(journal), journalLength = it.number(journal.length), summary = it.room(28);
-      refuseUnless0(it.call('fitrec_repair', atData, room, length, atJournal, journal.length, journalLength, summary), SAVED);
-      return { file: it.copy(atData, it.long(length)), summary: it.summary(summary) };
+      const memory = await fresh(), room = data.length + CLOSING_ROOM, atData = memory.put(data, CLOSING_ROOM), length = memory.number(data.length);
+      const atJournal = memory.put(journal), journalLength = memory.number(journal.length), summary = memory.room(28);
+      refuseUnless0(memory.call('fitrec_repair', atData, room, length, atJournal, journal.length, journalLength, summary), SAVED);
+      return { file: memory.copy(atData, memory.long(length)), summary: memory.summary(summary) };
     },
 
     // How many bytes of whole messages follow the last commit of a recording.
     async uncommitted(data, journal) {
-      const it = await memory();
-      return uncommittedAt(it, it.put(data), data.length, it.put(journal), journal.length);
+      const memory = await fresh();
+      return uncommittedAt(memory, memory.put(data), data.length, memory.put(journal), journal.length);
     },
 
     // The journal without its last commit, if what that counts has changed, and how many bytes that leaves out; or null.
     async leaveChanged(data, journal) {
-      const it = await memory(), atData = it.put(data), atJournal = it.put(journal), count = it.number();
-      if (it.call('fitrec_leave_changed', atData, data.length, atJournal, journal.length, count)) return null;
-      return { journal: it.copy(atJournal, journal.length), count: it.long(count) };
+      const memory = await fresh(), atData = memory.put(data), atJournal = memory.put(journal), count = memory.number();
+      if (memory.call('fitrec_leave_changed', atData, data.length, atJournal, journal.length, count)) return null;
+      return { journal: memory.copy(atJournal, journal.length), count: memory.long(count) };
     },
 
     // What is readable of a file, as a new file. With `all` the length in its header does not count.
     async salvage(file, all = false) {
-      const it = await memory(), { at, length, ...counts } = salvagedAt(it, it.put(file), file.length, all);
-      return { ...counts, file: it.copy(at, length) };
+      const memory = await fresh(), { at, length, ...counts } = salvagedAt(memory, memory.put(file), file.length, all);
+      return { ...counts, file: memory.copy(at, length) };
     },
 
     // What is readable of a damaged file, also after its faults, as a new file; and which bytes of the old one are kept and left out.
     async skip(file, all = false) {
-      const it = await memory(), room = file.length + FRAME_ROOM, at = it.put(file), out = it.room(room), length = it.number();
-      const counts = it.room(24), pieceCount = it.number(), free = it.end;
-      for (let pieceRoom = 64; ; pieceRoom = it.long(pieceCount)) {
-        it.end = free;
-        const pieces = it.room(24 * pieceRoom), given = [at, file.length, Boolean(all), out, room, length, pieces, pieceRoom, pieceCount, counts];
-        const code = it.call('fitrec_skip', ...given);
+      const memory = await fresh(), room = file.length + FRAME_ROOM, at = memory.put(file), out = memory.room(room), length = memory.number();
+      const counts = memory.room(24), pieceCount = memory.number(), free = memory.end;
+      for (let pieceRoom = 64; ; pieceRoom = memory.long(pieceCount)) {
+        memory.end = free;
+        const pieces = memory.room(24 * pieceRoom), given = [at, file.length, Boolean(all), out, room, length, pieces, pieceRoom, pieceCount, counts];
+        const code = memory.call('fitrec_skip', ...given);
         if (code === MORE_PIECES) continue;
         refuseUnless0(code, SALVAGED);
-        const [kept, looked, more] = [0, 8, 16].map(i => it.long(counts + i));
-        return { kept, looked, more, file: it.copy(out, it.long(length)), pieces: it.pieces(pieces, it.long(pieceCount)) };
+        const [kept, looked, more] = [0, 8, 16].map(i => memory.long(counts + i));
+        return { kept, looked, more, file: memory.copy(out, memory.long(length)), pieces: memory.pieces(pieces, memory.long(pieceCount)) };
       }
     },
 
     // The files that are chained in one, in order. What begins with no header comes last.
     async split(file) {
-      const it = await memory(), at = it.put(file), files = [];
+      const memory = await fresh(), at = memory.put(file), files = [];
       for (let start = 0; start < file.length;) {
-        const end = start + Number(it.call('fitrec_first_file', at + start, file.length - start));
+        const end = start + Number(memory.call('fitrec_first_file', at + start, file.length - start));
         files.push(file.slice(start, end));
         start = end;
       }
@@ -172,21 +179,25 @@ export async function open(source) {
 
     // The summary of a file, which has to be a finished activity.
     async check(file) {
-      const it = await memory(), at = it.put(file), summary = it.room(28), place = it.number();
-      refuseUnless0(it.call('fitrec_check', at, file.length, summary, place), CHECKED, it.long(place));
-      return it.summary(summary);
+      const memory = await fresh(), at = memory.put(file), summary = memory.room(28), place = memory.number();
+      refuseUnless0(memory.call('fitrec_check', at, file.length, summary, place), CHECKED, memory.long(place));
+      return memory.summary(summary);
     },
 
     // The file with the file_id and the closing messages that the activity lacks, and how many entries were heard and how many left out.
     async finish(file) {
-      const it = await memory(), room = file.length + FINISH_ROOM;
-      const at = it.put(file), out = it.room(room), length = it.number(), counts = it.room(16), place = it.number();
-      refuseUnless0(it.call('fitrec_finish', at, file.length, out, room, length, counts, place), FINISHED, it.long(place));
-      return { file: it.copy(out, it.long(length)), heard: it.long(counts), leftOut: it.long(counts + 8) };
+      const memory = await fresh(), room = file.length + FINISH_ROOM;
+      const at = memory.put(file), out = memory.room(room), length = memory.number(), counts = memory.room(16), place = memory.number();
+      refuseUnless0(memory.call('fitrec_finish', at, file.length, out, room, length, counts, place), FINISHED, memory.long(place));
+      return { file: memory.copy(out, memory.long(length)), heard: memory.long(counts), leftOut: memory.long(counts + 8) };
     },
 
     // The file with every time in full.
     plain: file => written('fitrec_plain', PLAIN, file, 2 * file.length + 1024),
+
+    // The same with every time moved: by so many whole seconds, or so that the ride begins at a time, in seconds since 1989-12-31 00:00 UTC.
+    shift: (file, seconds) => written('fitrec_shift', SHIFTED, file, 2 * file.length + 1024, seconds),
+    shiftStart: (file, start) => written('fitrec_shift_start', SHIFTED, file, 2 * file.length + 1024, new Number(start)),
 
     // The text of a file, and the same as JSON, in bytes.
     show: (file, utc = false) => written('fitrec_show', FAULTS, file, 12 * file.length + 4096, Boolean(utc)),
@@ -199,56 +210,56 @@ export async function open(source) {
     // The same for several messages of a file. A field may be { fields, scale, offset } too: the first of these that a message has, in a
     // unit, as value * scale + offset.
     async tables(file, asked) {
-      const it = await memory();
-      return tablesAt(it, it.put(file), file.length, asked);
+      const memory = await fresh();
+      return tablesAt(memory, memory.put(file), file.length, asked);
     },
 
     // The same of what a recording has up to its last commit. It is there long before the ride is saved.
     async committed(data, journal, asked) {
-      const it = await memory(), atData = it.put(data), count = uncommittedAt(it, atData, data.length, it.put(journal), journal.length);
-      let found = salvagedAt(it, atData, data.length, true);
-      if (count) found = salvagedAt(it, atData, data[0] + found.kept - count, true);
-      return tablesAt(it, found.at, found.length, asked);
+      const memory = await fresh(), atData = memory.put(data), count = uncommittedAt(memory, atData, data.length, memory.put(journal), journal.length);
+      let found = salvagedAt(memory, atData, data.length, true);
+      if (count) found = salvagedAt(memory, atData, data[0] + found.kept - count, true);
+      return tablesAt(memory, found.at, found.length, asked);
     },
   };
   return fitrec;
 }
 
-const uncommittedAt = (it, ...given) => Number(it.call('fitrec_uncommitted', ...given));
+const uncommittedAt = (memory, ...given) => Number(memory.call('fitrec_uncommitted', ...given));
 
 // What is readable of the bytes at a place: where it is, and counts.
-function salvagedAt(it, from, size, all) {
-  const room = size + FRAME_ROOM, at = it.room(room), end = it.number(), counts = it.room(24);
-  refuseUnless0(it.call('fitrec_salvage', from, size, Boolean(all), at, room, end, counts), SALVAGED);
-  const [kept, looked, more] = [0, 8, 16].map(i => it.long(counts + i));
-  return { kept, looked, more, at, length: it.long(end) };
+function salvagedAt(memory, from, size, all) {
+  const room = size + FRAME_ROOM, at = memory.room(room), end = memory.number(), counts = memory.room(24);
+  refuseUnless0(memory.call('fitrec_salvage', from, size, Boolean(all), at, room, end, counts), SALVAGED);
+  const [kept, looked, more] = [0, 8, 16].map(i => memory.long(counts + i));
+  return { kept, looked, more, at, length: memory.long(end) };
 }
 
 // The tables of the file at a place.
-function tablesAt(it, at, size, asked) {
-  const rows = it.number(), place = it.number(), free = it.end;
+function tablesAt(memory, at, size, asked) {
+  const rows = memory.number(), place = memory.number(), free = memory.end;
   return asked.map(([message, columns, expected = 64]) => {
     const kinds = columns.map(column => column.fields ? column : { fields: [column] }), fields = kinds.flatMap(kind => kind.fields);
     for (let room = expected; ;) {
-      it.end = free;
-      const atFields = it.put(fields), outSize = fields.length * room, out = it.room(8 * outSize);
-      const code = it.call('fitrec_columns', at, size, new Number(message), atFields, fields.length, room, out, outSize, rows, place);
+      memory.end = free;
+      const atFields = memory.put(fields), outSize = fields.length * room, out = memory.room(8 * outSize);
+      const code = memory.call('fitrec_columns', at, size, new Number(message), atFields, fields.length, room, out, outSize, rows, place);
       if (code !== NO_ROOM) {
-        refuseUnless0(code, FAULTS, it.long(place));
+        refuseUnless0(code, FAULTS, memory.long(place));
         let k = 0;
-        return kinds.map(kind => numbersAt(it, kind.fields.map(() => out + 8 * room * k++), it.long(rows), kind));
+        return kinds.map(kind => numbersAt(memory, kind.fields.map(() => out + 8 * room * k++), memory.long(rows), kind));
       }
-      room = it.long(rows);
+      room = memory.long(rows);
     }
   });
 }
 
 // Values of 64 bits that have at most 33, or are the one that means none. Where there is none at one place, it is taken from the next.
-function numbersAt(it, places, count, { scale = 1, offset = 0 }) {
+function numbersAt(memory, places, count, { scale = 1, offset = 0 }) {
   const found = new Float64Array(count);
   let missing = count;
   for (let k = 0; k < places.length && missing; k++) {
-    const halves = new Int32Array(it.exports.memory.buffer, places[k], 2 * count);
+    const halves = new Int32Array(memory.exports.memory.buffer, places[k], 2 * count);
     missing = 0;
     for (let i = 0; i < count; i++) {
       const high = halves[2 * i + 1];

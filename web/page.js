@@ -1,85 +1,25 @@
 // What a person chooses, and what is shown of it.
-const byId = id => document.getElementById(id);
 
-// ---- questions to the workers
-
-const source = URL.createObjectURL(new Blob([byId('worker').textContent], { type: 'text/javascript' }));
-const [saver, painter] = [new Worker(source), new Worker(source)], asked = new Map();
-for (const it of [saver, painter]) it.onmessage = ({ data: { number, step, answer, failed } }) => {
-  if (step) return progress(step);
-  asked.get(number)(answer || { failed });
-  asked.delete(number);
-};
-
-// The module of the library is compiled once, for both.
-inflated('@MODULE@').then(it => WebAssembly.compile(it)).then(module => [saver, painter].forEach(it => it.postMessage({ module })));
-
-let count = 0;
-function question(worker, about, lent = []) {
-  return new Promise(done => {
-    asked.set(++count, done);
-    worker.postMessage({ number: count, ...about }, lent);
-  });
-}
-
-function failure(reason) {
-  return { heading: 'nothing', reasons: [[reason]], next: [], offers: [] };
-}
-
-// The answer to a ride, or to one of its offers. A recording is drawn while it is saved.
-async function ask(ride, how) {
-  const { data, journal } = ride, isRecording = data && journal && !how.length;
-  progress(0);
-  let given, ahead;
-  try {
-    ahead = isRecording && question(painter, { files: (await Promise.all([data, journal].map(keptOf))).map(it => it.blob) });
-    given = await bytesOf(ride);
-  } catch (error) {
-    return failure(error instanceof RangeError ? 'tooLarge' : 'unread');
-  }
-  progress(1);
-  const lent = [given.data, given.journal].filter(it => it && it.length).map(it => it.buffer);
-  const answer = await question(saver, { ride: given, how }, lent);
-  if (answer.failed) return failure(answer.failed);
-  const { shown = answer.file, ...said } = answer;
-  if (!shown) return said;
-  const isAhead = ahead && said.heading === 'saved', records = said.summary && said.summary.records;
-  const drawn = isAhead && closed(await ahead, said.summary) || await question(painter, { files: [shown], records });
-  return drawn.failed ? failure(drawn.failed) : { ...said, ride: drawn };
-}
-
-// What was drawn ahead of a recording, with its last lap by the summary of the saved ride; null if that has other samples or laps.
-function closed(drawn, summary) {
-  if (drawn.failed || drawn.time.length !== summary.records || drawn.laps.length !== summary.laps) return null;
-  const before = drawn.laps.slice(), last = before.pop(), rest = key => summary[key] - before.reduce((sum, it) => sum + it[key], 0);
-  if (!last.isOpen) return drawn;
-  const start = before.length ? last.start : summary.start, distance = summary.distance === null ? null : rest('distance');
-  return { ...drawn, laps: [...before, { ...last, start, timer: rest('timer'), distance, isOpen: false }] };
-}
-
-// ---- progress, from 0.3 s on
-
-let begun = 0, timer = 0, queue = '';
-
-function progress(step) {
-  byId('progress').value = step;
-}
-
-function work(isBusy) {
-  clearTimeout(timer);
-  document.body.classList.toggle('busy', isBusy);
-  byId('progress').hidden = true;
-  byId('busy').textContent = '';
-  if (isBusy) timer = setTimeout(() => {
-    byId('progress').hidden = false;
-    byId('busy').textContent = text('busy') + queue;
-  }, 300);
-}
+import { ask, drawn, failure, question, saver } from './asking.js';
+import { chartsOf, readerOf } from './charts.js';
+import { chooserOf, chosen } from './choices.js';
+import { clockOf, questionOf } from './clock.js';
+import { byId, make } from './dom.js';
+import { dayText, isDated, LANGUAGE, LANGUAGES, measureIn, nameText, speak, SYSTEM, SYSTEMS, text } from './formats.js';
+import { lapTable } from './laps.js';
+import { filesOf, keep, ridesIn, ridesOf } from './picking.js';
+import { shortRide } from './rehearsal.js';
+import { isOpen, link, offer, tookIt } from './taking.js';
+import { factsIn, headingText, numbersOf, speedOf, told, wordsOf } from './telling.js';
+import { placeOn, trackPicture } from './track.js';
+import { unpacked } from './unpacking.js';
+import { work, workOn } from './waiting.js';
+import { zipOf } from './zip.js';
 
 // ---- what was chosen
 
-// Each choice has a number: the answer to an earlier one is not shown.
-let rides = [], current = null, turn = 0;
+// Each choice has a number: the answer to an earlier one is not shown. What is shown is kept, to be shown in another language.
+let rides = [], current = null, turn = 0, shownAnswer = null, shownOthers = 0;
 
 // The ride that is shown with the one file that is chosen, if it lacks that; or null.
 function completed([ride, ...more]) {
@@ -94,7 +34,7 @@ async function take(files) {
   work(true);
   byId('list').hidden = byId('result').hidden = true;
   try {
-    const { rides: found, others } = await ridesOf(await files);
+    const { rides: found, others } = await ridesOf(await unpacked(await files));
     for (const ride of found) await keep(ride);
     if (mine !== turn) return;
     const whole = completed(found);
@@ -103,28 +43,29 @@ async function take(files) {
       return await choose(whole);
     }
     rides = found;
-    byId('listNote').textContent = others ? text(others === 1 ? 'otherFile' : 'otherFiles', { count: others }) : '';
+    shownOthers = others;
     await (rides.length > 1 ? presentAll(mine) : choose(rides[0] || null));
   } catch (error) {
     rides = [];
-    present(failure('unread'));
+    current = null;
+    present(failure([error instanceof RangeError ? 'tooLarge' : 'unread']));
     work(false);
   }
 }
 
 // A ride that is shown again is as it was made last.
-async function choose(ride, how = ride && ride.how || []) {
+async function choose(ride, how = ride && ride.how || [], seconds = ride && ride.seconds || 0) {
   const mine = ++turn;
   current = ride;
   work(true);
-  const answer = ride ? await ask(ride, how) : failure('noFile');
+  const answer = ride ? await ask(ride, how, seconds) : failure(['noFile']);
   if (mine !== turn) return;
   if (answer.parts) {
     rides = ridesIn(ride, answer.parts);
-    byId('listNote').textContent = '';
+    shownOthers = 0;
     return presentAll(mine);
   }
-  const isNew = ride && how !== ride.how;
+  const isNew = ride && (how !== ride.how || seconds !== ride.seconds);
   if (ride) note(ride, how, answer);
   if (isNew && rides.length > 1) await list();
   if (mine !== turn) return;
@@ -132,18 +73,20 @@ async function choose(ride, how = ride && ride.how || []) {
   work(false);
 }
 
-// What the list says of a ride, and by which offers it was made.
+// What the list says of a ride, and by which offers it was made, with its times moved by how many seconds.
 function note(ride, how, answer) {
-  if (answer.file) name(ride, answer);
-  Object.assign(ride, { how, heading: answer.heading, file: answer.file, numbers: numbersOf(answer) });
+  const { heading, file, seconds = 0 } = answer;
+  name(ride, answer);
+  Object.assign(ride, { how, seconds, heading, file, words: wordsOf(answer.ride), facts: factsIn(answer), isTaken: false, isDownloaded: false });
 }
 
-// The name of a new file: by the day on which the ride began, where the browser is.
+// The name of a new file: by the day on which the activity began, where the browser is.
 function name(ride, answer) {
-  const start = startOf(answer), base = isDated(start) ? dayText(start) + '-ride' : ride.name.replace(/\.[^.]*$/, '') + '-saved';
-  const taken = rides.filter(it => it !== ride).map(it => it.saved);
+  const start = startOf(answer), original = ride.name.replace(/\.[^.]*$/, ''), isDay = isDated(start);
+  const base = isDay ? `${dayText(start)}-${wordsOf(answer.ride)}` : answer.file ? original + '-rescued' : original;
+  const taken = rides.filter(it => it !== ride && it.file).map(it => it.saved);
   ride.saved = base + '.fit';
-  for (let count = 2; taken.includes(ride.saved); count++) ride.saved = `${base}-${count}.fit`;
+  for (let count = 2; answer.file && taken.includes(ride.saved); count++) ride.saved = `${base}-${count}.fit`;
   answer.name = ride.saved;
 }
 
@@ -155,8 +98,7 @@ async function presentAll(mine) {
   current = null;
   for (let i = 0; i < rides.length; i++) {
     const ride = rides[i];
-    queue = ' ' + text('ofMany', { n: i + 1, all: rides.length });
-    if (!byId('progress').hidden) byId('busy').textContent = text('busy') + queue;
+    workOn(' ' + text('ofMany', { n: i + 1, all: rides.length }));
     const answer = await ask(ride, []);
     if (mine !== turn) return;
     if (answer.parts) {
@@ -168,71 +110,76 @@ async function presentAll(mine) {
   await list();
   if (mine !== turn) return;
   byId('list').focus();
-  queue = '';
+  workOn('');
   work(false);
 }
 
-// Shows what there is of each ride, and the files of all that are saved.
+// Shows what there is of each ride, and the files of all that are made.
 async function list() {
-  const mine = turn, saved = rides.filter(it => it.file), count = saved.length;
-  const zip = count > 1 ? await zipOf(saved.map(it => ({ name: it.saved, file: it.file }))) : null;
+  const mine = turn, made = rides.filter(it => it.file), count = made.length;
+  const zip = count > 1 ? await zipOf(made.map(it => ({ name: it.saved, file: it.file }))) : null;
   if (mine !== turn) return;
-  byId('listHeading').textContent = text('listTitle', { all: rides.length, saved: count });
-  byId('rides').replaceChildren(make('thead', {}, make('tr', {}, ...['file', 'start', 'duration', 'distance', 'state', 'action'].map(it =>
-    make('th', { scope: 'col' }, text(it))))), make('tbody', {}, ...rides.map(rowOf)));
-  const file = zip || (count ? saved[0].file : null), called = zip ? 'rides.zip' : count ? saved[0].saved : '';
-  link(byId('saveAll'), file, called, text(zip ? 'downloadAll' : 'download', { count, name: called }));
+  const file = zip || (count ? made[0].file : null), called = zip ? 'activities.zip' : count ? made[0].saved : '';
+  link(byId('saveAll'), file, called, '');
+  labelAll = [zip ? 'downloadAll' : 'download', { count, name: called }];
+  showList();
+  byId('saveAll').onclick = () => made.forEach(it => tookIt(it));
   byId('list').hidden = false;
 }
 
+let labelAll = null;
+
+function showList() {
+  byId('saveAll').textContent = text(...labelAll);
+  const whole = rides.filter(it => it.heading === 'whole').length, made = rides.filter(it => it.file && it.heading !== 'whole').length;
+  const counts = [['rescuedCount', made], ['wholeCount', whole], ['restCount', rides.length - whole - made]].filter(([, count]) => count);
+  byId('listHeading').textContent = text('listTitle', { all: rides.length, counts: counts.map(([key, count]) => [key, { count }]) });
+  byId('listNote').textContent = shownOthers ? text(shownOthers === 1 ? 'otherFile' : 'otherFiles', { count: shownOthers }) : '';
+  byId('rides').replaceChildren(make('thead', {}, make('tr', {}, ...['file', 'start', 'duration', 'distance', 'state', 'action'].map(it =>
+    make('th', { scope: 'col' }, text(it))))), make('tbody', {}, ...rides.map(rowOf)));
+}
+
 function rowOf(ride) {
-  const { heading, numbers } = ride;
+  const { heading, words, facts } = ride, numbers = numbersOf(facts);
   const show = make('button', { type: 'button', 'aria-label': text('show') + ' ' + ride.folder + ride.name }, text('show'));
   show.addEventListener('click', () => choose(ride));
   return make('tr', {}, make('th', { scope: 'row' }, ride.folder + ride.name),
-    ...['start', 'duration', 'distance'].map(it => make('td', {}, numbers[it] || '')), make('td', {}, text(heading)), make('td', {}, show));
+    ...['start', 'duration', 'distance'].map(it => make('td', {}, numbers[it] ? numbers[it].shown : '')),
+    make('td', {}, headingText(heading, words)), make('td', {}, show));
 }
 
 // ---- one ride
 
-// What the ride adds up to: by its sessions, else by its summary, and else by its samples.
-function addedUp({ summary, ride }) {
-  const stated = Object.entries(summary || {}).filter(([, n]) => n !== null);
-  return { ...(ride && ride.added), ...Object.fromEntries(stated), ...(ride && ride.sums) };
-}
-
-// In km/h, of centimetres and milliseconds of the timer; null if one is missing.
-const speedOf = ({ distance, timer }) => timer && distance !== null && distance !== undefined ? distance / timer * 36 : null;
-
-function numbersOf(answer) {
-  const { ride } = answer, of = addedUp(answer), numbers = {};
-  const add = (key, n, shown) => { if (n !== null && n !== undefined && n === n) numbers[key] = shown(n); };
-  add('start', of.start, startText);
-  add('duration', of.elapsed, durationText);
-  add('moving', of.timer, durationText);
-  add('distance', of.distance, n => text('km', { n: numberText(n / 100000, 2) }));
-  if (of.distance) add('speedAverage', speedOf(of), n => valueText('speed', n));
-  add('ascent', ride ? ride.ascent : null, n => valueText('height', n));
-  add('samples', of.records, n => numberText(n));
-  if (of.sessions > 1) add('sessions', of.sessions, n => numberText(n));
-  if (ride && ride.laps.length) add('laps', ride.laps.length, n => numberText(n));
-  return numbers;
-}
-
-function present(answer, how = []) {
-  const { heading, reasons, next, offers, file, name, ride } = answer, sentence = ([key, values]) => text(key, values);
-  byId('heading').textContent = text(heading);
+function present(answer, how = [], isAgain = false) {
+  const { reasons, details, next, offers, file, ride } = answer, sentence = ([key, values]) => text(key, values), facts = factsIn(answer);
+  shownAnswer = { answer, how };
+  byId('heading').textContent = headingText(answer.heading, wordsOf(ride));
   const which = rides.length > 1 && current ? make('p', {}, make('strong', {}, current.folder + current.name)) : '';
-  byId('reason').replaceChildren(which, make('p', {}, reasons.map(sentence).join(' ')));
+  const untimed = ride && ride.isUntimed ? [['untimed']] : [];
+  const [lead, ...more] = told([...reasons, ...untimed], ride).map(sentence);
+  byId('reason').replaceChildren(which, make('p', { className: 'lead' }, lead || ''), make('p', { className: 'more' }, more.join(' ')));
   byId('next').replaceChildren(...next.map(it => make('p', {}, sentence(it))));
-  byId('offers').replaceChildren(...offers.map(it => offerOf(it, how)));
-  byId('numbers').replaceChildren(...(ride ? Object.entries(numbersOf(answer)).map(pair) : []));
-  byId('where').textContent = file ? text('where') : '';
-  byId('where').hidden = !file;
-  link(byId('save'), file, name, file ? text('download', { name }) : '');
+  byId('offers').replaceChildren(...offers.filter(it => it !== 'bare').map(it => offerOf(it, how)));
+  byId('rarely').replaceChildren(...offers.filter(it => it === 'bare').map(it => offerOf(it, how)));
+  byId('details').replaceChildren(...details.map(it => make('li', {}, sentence(it))));
+  byId('repairer').hidden = !details.length;
+  byId('numbers').replaceChildren(...(ride ? Object.entries(numbersOf(facts)).map(pair) : []));
+  showClock(answer, facts, how);
+  byId('where').textContent = file && answer.isWhole ? text('where') : '';
+  byId('where').hidden = !byId('where').textContent;
+  offer(answer, current);
   byId('result').hidden = false;
-  draw(ride, speedOf(addedUp(answer)));
-  byId('result').focus();
+  draw(ride, speedOf(facts.of));
+  if (!isAgain) byId('result').focus();
+}
+
+// When it began is asked first where its clock was wrong, and else in a fold.
+function showClock(answer, facts, how) {
+  const clock = clockOf(answer, facts), ride = current, isAsked = clock && clock.isWrong;
+  const forms = clock ? [questionOf(clock, answer, seconds => choose(ride, how, seconds))] : [];
+  byId('asked').replaceChildren(...isAsked ? forms : []);
+  byId('mayAsk').replaceChildren(...isAsked ? [] : forms);
+  byId('clock').hidden = isAsked || !clock;
 }
 
 // The line under the speeds has the average that stands among the numbers.
@@ -243,41 +190,55 @@ function draw(ride, average) {
     track.startAt = placeOn(track, ride.lat[track.first], ride.long[track.first]);
     track.finishAt = placeOn(track, ride.lat[track.finish], ride.long[track.finish]);
   }
-  pictures.replaceChildren(...(track ? [trackPicture(track)] : []), ...(ride ? chartsOf(ride) : []));
+  const charts = ride ? chartsOf(ride) : [];
+  const curves = charts.length ? [make('div', { className: 'charts' }, ...charts)] : [];
+  pictures.replaceChildren(...(track ? [trackPicture(track)] : []), ...curves);
+  pictures.classList.toggle('both', Boolean(track && charts.length));
   const reader = ride && pictures.children.length ? readerOf(ride, pictures) : null;
   if (reader) pictures.prepend(reader);
-  byId('laps').replaceChildren(...(ride && ride.laps.length ? lapTable(ride.laps) : []));
+  byId('laps').replaceChildren(...(ride && ride.laps.count ? lapTable(ride.laps) : []));
 }
 
 function offerOf(offer, how) {
   const made = make('button', { type: 'button', className: 'button second' }, text('offer_' + offer)), ride = current;
-  made.addEventListener('click', () => choose(ride, [...how, offer]));
+  made.addEventListener('click', () => choose(ride, offer === 'back' ? how.slice(0, -1) : [...how, offer]));
   return made;
 }
 
-function pair([key, value]) {
-  return make('div', {}, make('dt', {}, text(key)), make('dd', {}, value));
-}
-
-// A file to be downloaded.
-function link(element, file, name, label) {
-  URL.revokeObjectURL(element.href);
-  element.hidden = !file;
-  if (!file) return element.removeAttribute('href');
-  element.href = URL.createObjectURL(file);
-  element.download = name;
-  element.textContent = label;
+function pair([key, { shown, other }]) {
+  return make('div', {}, make('dt', {}, nameText(key)), make('dd', {}, shown), other ? make('dd', { className: 'other' }, other) : null);
 }
 
 // ---- the page
 
-async function begin() {
-  const isTouched = matchMedia('(pointer: coarse)').matches;
-  if (!TEXTS[LANGUAGE]) await learn();
+const isTouched = () => matchMedia('(pointer: coarse)').matches;
+
+// All that is there, in the language and the units that are chosen.
+function showAgain() {
   document.documentElement.lang = LANGUAGE;
+  document.title = text('title');
   for (const it of document.querySelectorAll('[data-text]')) it.textContent = text(it.dataset.text);
-  byId('hint').textContent = text(isTouched ? 'hintTap' : 'hint');
-  for (const it of document.querySelectorAll('[for=folder], #folder')) it.hidden = isTouched || !('webkitdirectory' in byId('folder'));
+  for (const it of document.querySelectorAll('[data-label]')) it.ariaLabel = text(it.dataset.label);
+  byId('hint').textContent = text(isTouched() ? 'hintTap' : 'hint');
+  if (!byId('list').hidden) showList();
+  if (!byId('result').hidden) present(shownAnswer.answer, shownAnswer.how, true);
+}
+
+// A short ride is saved and drawn unseen: then what a long one needs is compiled before one is chosen.
+function rehearse() {
+  const [data, journal] = shortRide();
+  question(saver, { ride: { data, journal }, how: [] });
+  drawn([new Blob([data]), new Blob([journal])]).then(chartsOf);
+}
+
+function begin() {
+  const [language, units] = [chosen('language'), chosen('units')];
+  speak(language in LANGUAGES ? language : null);
+  if (units in SYSTEMS) measureIn(units);
+  chooserOf(byId('language'), LANGUAGES, LANGUAGE, it => { speak(it); showAgain(); });
+  chooserOf(byId('units'), SYSTEMS, SYSTEM, it => { measureIn(it); showAgain(); });
+  showAgain();
+  for (const it of document.querySelectorAll('[for=folder], #folder')) it.hidden = isTouched() || !('webkitdirectory' in byId('folder'));
   for (const id of ['files', 'folder']) byId(id).addEventListener('change', async ({ target }) => {
     await take(filesOf(target));
     target.value = '';
@@ -286,15 +247,12 @@ async function begin() {
   for (const kind of ['dragover', 'dragleave', 'drop']) {
     addEventListener(kind, event => {
       event.preventDefault();
-      byId('drop').classList.toggle('over', kind === 'dragover');
+      byId('over').hidden = kind !== 'dragover';
       if (kind === 'drop') take(filesOf(event.dataTransfer));
     });
   }
-  if (location.protocol.startsWith('http')) {
-    document.head.append(make('link', { rel: 'manifest', href: 'manifest.webmanifest' }), make('link', { rel: 'icon', href: 'icon.svg' }));
-    if (navigator.serviceWorker) navigator.serviceWorker.register('service-worker.js').catch(() => {});
-  }
-  document.title = text('title');
+  addEventListener('beforeunload', event => { if (rides.some(isOpen)) event.preventDefault(); });
+  if (window.fitrec.isServed && navigator.serviceWorker) navigator.serviceWorker.register('service-worker.js').catch(() => {});
   rehearse();
 }
 

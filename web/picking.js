@@ -1,8 +1,11 @@
 // What is chosen or dropped: files, folders and cards. They are known by their first bytes, and two files of one recording are one ride.
 
+import { LOCALE, text } from './formats.js';
+
 // Files with their folders, of a list of files or of a drop. Chromium reads dropped folders by handles, and by nothing else where the page
 // lies on a disk. Other browsers read them by entries. A drop lends both only as long as its event lasts.
-async function filesOf({ files, items }) {
+/** @param {any} given an input or what is dropped @returns {Promise<Chosen[]>} */
+export async function filesOf({ files, items }) {
   const dropped = [...(items || [])], found = [];
   const handles = dropped.map(it => it.getAsFileSystemHandle && it.getAsFileSystemHandle());
   const entries = dropped.map(it => it.webkitGetAsEntry && it.webkitGetAsEntry());
@@ -33,20 +36,22 @@ async function walkEntry(entry, folder, found) {
 
 // A file with its kind: 'fit', 'journal' or 'other'. `isOpen` is of a recording that was not closed. What a Mac leaves beside each file of
 // a card has the same name after two characters.
-async function known({ file, folder }) {
+/** @param {Chosen} chosen */
+async function known({ file, folder, isArchive }) {
   const byName = /^\._/.test(file.name) ? 'other' : /\.frj$/i.test(file.name) ? 'journal' : /\.fit$/i.test(file.name) ? 'fit' : 'other';
-  let head = [];
+  let head = new Uint8Array(0);
   try {
     head = new Uint8Array(await file.slice(0, 12).arrayBuffer());
   } catch {
     // It is read again with its ride, and reported there.
   }
   const text = String.fromCharCode(...head), kind = text.slice(8, 12) === '.FIT' ? 'fit' : /^FRJ/.test(text) ? 'journal' : byName;
-  return { file, folder, kind, base: file.name.replace(/\.[^.]*$/, '').toLowerCase(), isOpen: text.slice(4, 8) === '\0\0\0\0' };
+  return { file, folder, isArchive, kind, base: file.name.replace(/\.[^.]*$/, '').toLowerCase(), isOpen: text.slice(4, 8) === '\0\0\0\0' };
 }
 
 // The rides of some files, in the order of folders and names, each with `data` and `journal` or one of them, and how many files are none.
-async function ridesOf(files) {
+/** @param {Chosen[]} files @returns {Promise<{ rides: Files[], others: number }>} */
+export async function ridesOf(files) {
   const found = [], rides = [];
   const { compare } = new Intl.Collator(LOCALE, { numeric: true });
   files.sort((a, b) => compare(a.folder, b.folder) || compare(a.file.name, b.file.name));
@@ -56,9 +61,9 @@ async function ridesOf(files) {
   for (const folder of folders) {
     const of = kind => ours.filter(it => it.folder === folder && it.kind === kind), fits = of('fit'), journals = of('journal');
     const taken = new Map();
-    for (const it of journals) {
-      const own = fits.find(data => data.base === it.base && !taken.has(data));
-      if (own) taken.set(own, it);
+    for (const journal of journals) {
+      const own = fits.find(data => data.base === journal.base && !taken.has(data));
+      if (own) taken.set(own, journal);
     }
     const left = journals.filter(it => ![...taken.values()].includes(it)), free = fits.filter(it => !taken.has(it));
     const open = free.filter(it => it.isOpen), match = free.length === 1 ? free[0] : open.length === 1 ? open[0] : null;
@@ -69,12 +74,13 @@ async function ridesOf(files) {
 }
 
 function rideFrom(data, journal) {
-  const { file, folder } = data || journal;
-  return { data: data && data.file, journal: journal && journal.file, name: file.name, folder };
+  const { file, folder, isArchive } = data || journal;
+  return { data: data && data.file, journal: journal && journal.file, name: file.name, folder, isArchive };
 }
 
 // The rides of files that are chained in one.
-function ridesIn({ name, folder }, parts) {
+/** @param {Files} chain @param {Uint8Array[]} parts @returns {Files[]} */
+export function ridesIn({ name, folder }, parts) {
   return parts.map((bytes, i) => {
     const data = new Blob([bytes]);
     kept.set(data, { blob: data });
@@ -85,13 +91,15 @@ function ridesIn({ name, folder }, parts) {
 // What is kept of each file that was read. Nothing is read twice, so that a card can be pulled out.
 const kept = new WeakMap();
 
-async function keptOf(file) {
+/** @param {Blob} file @returns {Promise<{ blob: Blob, unread?: number }>} */
+export async function keptOf(file) {
   if (!kept.has(file)) kept.set(file, await frontOf(file));
   return kept.get(file);
 }
 
 // Reads the files of a ride. One that cannot be read is tried again, and reported, when the ride is asked for.
-async function keep({ data, journal }) {
+/** @param {Files} ride */
+export async function keep({ data, journal }) {
   for (const file of [data, journal]) if (file) await keptOf(file).catch(() => {});
 }
 
@@ -113,7 +121,8 @@ async function frontOf(file) {
 }
 
 // What the worker is given of a ride.
-async function bytesOf({ data, journal, name, isPart }) {
+/** @param {Files} ride @returns {Promise<Given>} */
+export async function bytesOf({ data, journal, name, isPart }) {
   const read = async file => new Uint8Array(await (await keptOf(file)).blob.arrayBuffer());
   const [bytes, other] = await Promise.all([data, journal].map(it => it && read(it)));
   return { name, isPart, journalName: journal && journal.name, data: bytes, unread: data && kept.get(data).unread, journal: other };

@@ -1,4 +1,6 @@
-// A short ride, which is saved and drawn unseen when the page opens: then what a long ride needs is compiled before one is chosen.
+// A short ride, for the first turn of what saves and draws.
+
+import { bytesIn } from './inflating.js';
 
 // What a recorder writes before the first sample: header, file_id, sport and event with their definitions, and the definition of a sample.
 const OPENING = 'DhBkAAAAAAAuRklUIe5EAAAAAAUAAQABAoQCAoQDBIwEBIYEBP8AAQAHAAAAAHmQQUUAAAwAAgABAAEBAAUCAEYAABUAA/0EhgABAAEBAAYAeZBBAABAAAAU'
@@ -6,7 +8,8 @@ const OPENING = 'DhBkAAAAAAAuRklUIe5EAAAAAAUAAQABAoQCAoQDBIwEBIYEBP8AAQAHAAAAAHm
 const SAMPLES = 2000;
 
 // The two files of docs/JOURNAL-FORMAT.md, with a sample a second. Of their values only the distance has to be in order.
-function shortRide() {
+/** @returns {Uint8Array[]} */
+export function shortRide() {
   const opening = bytesIn(OPENING), data = new Uint8Array(opening.length + 24 * SAMPLES), length = data.length - 14;
   data.set(opening);
   for (let i = 0, at = opening.length; i < SAMPLES; i++, at += 24) {
@@ -14,10 +17,4 @@ function shortRide() {
     data[at] = 128 + i % 32;
   }
   return [data, Uint8Array.of(...new TextEncoder().encode('FRJ2\0\0\0\0'), 0xA5, length, length >> 8, length >> 16, ...Array(12).fill(0))];
-}
-
-function rehearse() {
-  const [data, journal] = shortRide();
-  question(saver, { ride: { data, journal }, how: [] });
-  question(painter, { files: [new Blob([data]), new Blob([journal])] }).then(chartsOf);
 }

@@ -1,49 +1,85 @@
 // What the samples of a ride say: its series, from all samples, with their gaps, and its laps.
 
-const TIME = 253, SESSION = 18, LAP = 19, RECORD = 20, EVENT = 21, SEMICIRCLE = 180 / 2 ** 31;
-// A sample with most of the fields has some more bytes. No distance leaps so far, in centimetres. A value counts for so many seconds at most.
-const SAMPLE = 20, FAR = 1e7, LONGEST = 60;
+import { columnsOf } from './drawing.js';
+import { extremesOf, plausible, sampleAt } from './ranges.js';
 
-// A field of each series, and one that counts where the first is missing; and those that state its maximum in a session. In its unit a value
-// is raw * scale + offset. No device measures what is below `from` or above `to`: a heart has a beat, and 0 is the altitude of bytes that
-// were never written. `least` is the smallest range of its picture.
+export const TIME = 253, SPORT = 12, SESSION = 18, LAP = 19, RECORD = 20, EVENT = 21, SEMICIRCLE = 180 / 2 ** 31;
+// A sample with most of the fields has some more bytes. No distance leaps so far, in centimetres. A value counts for so many seconds at most.
+// The sport of a ride stands in so many bytes.
+export const SAMPLE = 20, FAR = 1e7, LONGEST = 60, FRONT = 4096;
+
+// A field of each series, and one that counts where the first is missing; and those that state its maximum and its average in a session. In
+// its unit a value is raw * scale + offset. No device measures what is below `from` or above `to`: a heart has a beat, and 0 is the altitude
+// of bytes that were never written. `least` is the smallest range of its picture.
 const SERIES = [
-  { name: 'speed', fields: [73, 6], maximum: [125, 15], scale: 0.0036, offset: 0, from: 0, to: 1300, least: 1 },
-  { name: 'heart', fields: [3], maximum: [17], scale: 1, offset: 0, from: 1, to: 254, least: 5 },
-  { name: 'height', fields: [78, 2], maximum: [128, 50], scale: 0.2, offset: -500, from: -499, to: 30000, least: 5 },
-  { name: 'power', fields: [7], maximum: [21], scale: 1, offset: 0, from: 0, to: 5000, least: 20 },
-  { name: 'cadence', fields: [4], maximum: [19], scale: 1, offset: 0, from: 0, to: 254, least: 5 },
-  { name: 'warmth', fields: [13], maximum: [58], scale: 1, offset: 0, from: -90, to: 100, least: 2 },
+  { name: 'speed', fields: [73, 6], maximum: [125, 15], mean: [124, 14], scale: 0.0036, offset: 0, from: 0, to: 1300, least: 1 },
+  { name: 'heart', fields: [3], maximum: [17], mean: [16], scale: 1, offset: 0, from: 1, to: 254, least: 5 },
+  { name: 'height', fields: [78, 2], maximum: [128, 50], mean: [126, 49], scale: 0.2, offset: -500, from: -499, to: 30000, least: 5 },
+  { name: 'power', fields: [7], maximum: [21], mean: [20], scale: 1, offset: 0, from: 0, to: 5000, least: 20 },
+  { name: 'cadence', fields: [4], maximum: [19], mean: [18], scale: 1, offset: 0, from: 0, to: 254, least: 5 },
+  { name: 'warmth', fields: [13], maximum: [58], mean: [57], scale: 1, offset: 0, from: -90, to: 100, least: 2 },
 ];
 const POSITION = [0, 1].map(it => ({ fields: [it], scale: SEMICIRCLE }));
 
-// What is read of a ride: of a finished file all, of the two files of a recording what is there up to its last commit.
-async function tablesOf(fitrec, files, records) {
-  const [data, journal] = await Promise.all(files.map(async it => new Uint8Array(await it.arrayBuffer())));
+// What is read of a ride: of a finished file all, of the two files of a recording what is there up to its last commit. That has no session.
+/** @param {import('./fitrec.mjs').Fitrec} fitrec @param {(Blob | ArrayBuffer)[]} files @param {number | null} [records] */
+export async function tablesOf(fitrec, files, records) {
+  const [data, journal] = await Promise.all(files.map(async it => new Uint8Array(it instanceof Blob ? await it.arrayBuffer() : it)));
   const samples = [RECORD, [TIME, ...POSITION, 5, ...SERIES], records || Math.ceil(data.length / SAMPLE)];
-  const sessions = [SESSION, [2, 7, 8, 9, ...SERIES.map(it => ({ ...it, fields: it.maximum }))]];
-  const asked = [samples, [EVENT, [TIME, 0, 1]], [LAP, [TIME, 2, 7, 8, 9], 1024], sessions];
-  return journal ? fitrec.committed(data, journal, asked) : fitrec.tables(data, asked);
+  const stated = ['maximum', 'mean'].flatMap(key => SERIES.map(it => ({ ...it, fields: it[key] })));
+  const ofSession = [2, 7, 8, 9, 5, 22, ...stated], asked = [samples, [EVENT, [TIME, 0, 1]], [LAP, [TIME, 2, 7, 8, 9], 1024]];
+  const tables = await (journal ? fitrec.committed(data, journal, asked) : fitrec.tables(data, [...asked, [SESSION, ofSession]]));
+  if (journal) tables.push(ofSession.map(() => new Float64Array(0)));
+  return { tables, sport: tables[3][4].find(n => n > 0) ?? await sportOf(fitrec, data) };
 }
 
-// The ride of its tables. Times are seconds since 1989-12-31 00:00 UTC, positions are degrees, distances centimetres.
-function rideOf([records, events, found, [start, elapsed, timer, length, ...stated]]) {
-  const [time, lat, long, distance, ...values] = inTime(records), pauses = pausesOf(...events);
+// The sport that the first bytes of a file state, if they do.
+async function sportOf(fitrec, data) {
+  try {
+    const { file } = await fitrec.salvage(data.subarray(0, FRONT), true);
+    return (await fitrec.columns(file, SPORT, [0]))[0][0];
+  } catch {
+    return undefined;
+  }
+}
+
+// The ride of its tables; a summary that is ours says nothing of the device. Times are seconds since 1989-12-31 00:00 UTC, positions are
+// degrees, distances centimetres. Samples none of which has a time are in their order, as if one came each second.
+/** @param {{ tables: Float64Array[][], sport?: number }} read @param {{ gaps: Gap[], isOurs?: boolean }} about @returns {Drawn} */
+export function rideOf({ tables: [records, events, found, [start, elapsed, timer, length, , climbed, ...stated]], sport }, { gaps, isOurs }) {
+  const isUntimed = records[0].length > 0 && records[0].every(n => n !== n), missing = isUntimed ? [] : gaps.map(it => spanOf(it, records));
+  if (isUntimed) records[0].forEach((_, i) => { records[0][i] = i; });
+  const [time, lat, long, distance, ...values] = inTime(records), pauses = isUntimed ? [] : pausesOf(...events);
   const resumed = pauses.map(([, to]) => sampleAt(time, to)), usual = plausible(distance, extremesOf(distance), FAR);
   leaveOut(distance, usual);
-  const laps = lapsOf(found, { time, distance, pauses }), breaks = breaksOf(time, time, resumed), clock = clockOf(time, pauses);
-  const ends = [...columnsOf(time), ...laps.flatMap(it => [it.first, it.last])], shared = { time, clock, ends, breaks, resumed };
-  shared.weights = weightsOf(clock, time);
-  const series = SERIES.map((kind, k) => seriesOf(values[k], kind, stated[k], shared)).filter(it => it);
-  for (const lap of laps) {
-    lap.series = {};
-    for (const { name, parts } of series) lap.series[name] = rangeOf(parts.filter(it => it.first >= lap.first && it.first < lap.last));
-  }
-  const ride = { time, lat, long, distance, series, pauses, laps, breaks: lat.includes(NaN) ? breaksOf(time, lat, resumed) : breaks };
-  return { ...ride, ...totalsOf(ride, usual), sums: sumsOf({ start, elapsed, timer, distance: length }) };
+  const laps = isUntimed ? [] : lapsOf(found, { time, distance, pauses }), breaks = breaksOf(time, time, resumed);
+  const clock = clockOf(time, pauses);
+  const ends = new Uint8Array(time.length + 1), shared = { time, clock, ends, breaks, resumed, weights: weightsOf(clock, time) };
+  for (const i of columnsOf(time)) ends[i] = 1;
+  for (const { first, last } of laps) ends[first] = ends[last] = 1;
+  const means = stated.slice(SERIES.length), isOne = start.length === 1 && !isOurs;
+  const series = SERIES.map((kind, k) => seriesOf(values[k], kind, stated[k], isOne ? means[k][0] : NaN, shared)).filter(it => it);
+  const ride = { time, lat, long, distance, series, pauses, breaks: lat.includes(NaN) ? breaksOf(time, lat, resumed) : breaks };
+  const sums = sumsOf({ start, ...(isOurs ? {} : { elapsed, timer, distance: length, ascent: climbed }) }), totals = totalsOf(ride, usual);
+  if (isUntimed) Object.assign(totals.added, { start: null, elapsed: null, timer: null });
+  return { ...ride, laps: lapColumns(laps, series), ...totals, sums, sport, isUntimed, missing };
+}
+
+// From when to when samples are missing between those that stand before a place and after it, and how far that is.
+/** @param {Gap} gap @param {Float64Array[]} records @returns {Missing | null} */
+function spanOf({ before, isLast }, [time, , , distance]) {
+  if (before === undefined) return null;
+  const known = (values, first, step) => {
+    for (let i = first; i >= 0 && i < values.length; i += step) if (values[i] === values[i]) return values[i];
+    return null;
+  };
+  const from = known(time, before - 1, -1), to = isLast ? null : known(time, before, 1);
+  const way = known(distance, before, 1) - known(distance, before - 1, -1), cm = way > 0 && way < FAR ? way : null;
+  return { from, to, ms: from === null || to === null ? null : 1000 * Math.max(0, to - from), cm };
 }
 
 // The columns in the order of their times, without samples whose time is missing or far from all others.
+/** @param {Float64Array[]} columns @returns {Float64Array[]} */
 function inTime(columns) {
   const [time] = columns;
   let isInOrder = true;
@@ -60,13 +96,22 @@ function inTime(columns) {
 
 // A series with its parts and what they amount to, without values that cannot be; null if it has no other. Its greatest value is at least the
 // maximum that a session states. The parts end where a column of the picture or a lap does, and where the line is interrupted.
-function seriesOf(values, kind, stated, { time, clock, weights, ends, breaks, resumed }) {
+function seriesOf(values, kind, stated, mean, { time, clock, weights: usual, ends, breaks, resumed }) {
   const { faults, count } = leaveOut(values, kind), isFull = count === time.length, own = isFull ? breaks : breaksOf(time, values, resumed);
   leaveOut(stated, kind);
   if (!count) return null;
-  const parts = partsOf(values, isFull ? weights : weightsOf(clock, values), [...ends, ...own]), range = rangeOf(parts), { low, high } = range;
-  const most = extremesOf(stated).high, { name, least } = kind;
-  return { name, least, values, ...range, high: most > high ? most : high, from: low, to: high, faults, parts, breaks: own };
+  const weights = isFull ? usual : weightsOf(clock, values), parts = partsOf(values, weights, ends, own), range = rangeOf(parts);
+  const most = extremesOf(stated).high, { low, high } = range, { name, least, from, to } = kind;
+  const { average, seconds } = range, shown = { low, average, high: most > high ? most : high, from: low, to: high };
+  // Devices leave the seconds out in which nobody pedals.
+  const inMotion = name === 'cadence' ? seconds * average / secondsAbove0(values, weights) : null;
+  return { name, least, values, ...shown, faults, parts, breaks: own, inMotion, mean: mean >= from && mean <= to ? mean : null };
+}
+
+function secondsAbove0(values, weights) {
+  let seconds = 0;
+  for (let i = 0; i < values.length; i++) if (values[i] > 0) seconds += weights[i];
+  return seconds;
 }
 
 // Leaves values out that are not from one to another: how many these are, and how many are left.
@@ -110,68 +155,58 @@ function weightsOf(clock, values) {
   return weights;
 }
 
-// The least and the greatest value, the sum over the seconds and their number, up to each of these places, from the one before; without
-// parts that have no value.
-function partsOf(values, weights, ends) {
-  const parts = [];
-  let first = 0;
-  for (const end of new Uint32Array([...ends, values.length]).sort()) {
-    let low = Infinity, high = -Infinity, sum = 0, seconds = 0;
-    for (let i = first; i < end; i++) {
-      const n = values[i];
-      if (n !== n) continue;
-      if (n < low) low = n;
-      if (n > high) high = n;
-      sum += n * weights[i];
-      seconds += weights[i];
+// The least and the greatest value, the sum over the seconds and their number, up to each place that is marked or is a break, from the one
+// before; without parts that have no value.
+function partsOf(values, weights, marks, breaks) {
+  const parts = [], ends = marks.slice();
+  for (const i of breaks) ends[i] = 1;
+  let first = 0, low = Infinity, high = -Infinity, sum = 0, seconds = 0;
+  for (let i = 0; i <= values.length; i++) {
+    if (ends[i] || i === values.length) {
+      if (low <= high) parts.push({ first, low, high, sum, seconds });
+      [first, low, high, sum, seconds] = [i, Infinity, -Infinity, 0, 0];
     }
-    if (low <= high) parts.push({ first, low, high, sum, seconds });
-    first = end;
+    const n = values[i];
+    if (!(n === n && i < values.length)) continue;
+    if (n < low) low = n;
+    if (n > high) high = n;
+    sum += n * weights[i];
+    seconds += weights[i];
   }
   return parts;
 }
 
+// Adds parts from one to another to a whole.
+function addParts(whole, parts, from, to) {
+  for (let k = from; k < to; k++) {
+    const part = parts[k];
+    if (part.low < whole.low) whole.low = part.low;
+    if (part.high > whole.high) whole.high = part.high;
+    whole.sum += part.sum;
+    whole.seconds += part.seconds;
+  }
+  return whole;
+}
+
+const noParts = () => ({ low: Infinity, high: -Infinity, sum: 0, seconds: 0 });
+
 // The least, the greatest and the average of parts; null if there are none.
 function rangeOf(parts) {
-  let low = Infinity, high = -Infinity, sum = 0, seconds = 0;
-  for (const it of parts) {
-    low = Math.min(low, it.low);
-    high = Math.max(high, it.high);
-    sum += it.sum;
-    seconds += it.seconds;
-  }
-  return low <= high ? { low, high, average: sum / seconds } : null;
+  const whole = addParts(noParts(), parts, 0, parts.length);
+  return parts.length ? { ...whole, average: whole.sum / whole.seconds } : null;
 }
 
-// The least and the greatest value, or NaN if there is none.
-function extremesOf(values) {
-  let low = Infinity, high = -Infinity;
-  for (let i = 0; i < values.length; i++) {
-    if (values[i] < low) low = values[i];
-    if (values[i] > high) high = values[i];
-  }
-  return low <= high ? { low, high } : { low: NaN, high: NaN };
-}
+// What gives the parts from one sample up to another as one. So many are taken at once: laps may be many, and each may be the whole ride.
+const BLOCK = 256;
 
-// The range that counts of times, distances or positions with this least and greatest. One counts as a fault if it is far beyond 99 of 100
-// others: by more than four times their distance from the median, and four times `reach`. `from` and `to` are the least and the greatest of the rest, and
-// `faults` is how many there are.
-function plausible(values, { low, high }, reach) {
-  const step = Math.ceil(values.length / 20000), some = [];
-  for (let i = 0; i < values.length; i += step) if (values[i] === values[i]) some.push(values[i]);
-  const sorted = new Float64Array(some).sort(), size = sorted.length, cut = Math.min(Math.max(1, Math.floor(size / 100)), (size - 1) >> 1);
-  const median = sorted[size >> 1], bottom = sorted[cut], top = sorted[size - 1 - cut];
-  const lowest = bottom - 4 * Math.max(median - bottom, reach), highest = top + 4 * Math.max(top - median, reach);
-  if (low >= lowest && high <= highest) return { from: low, to: high, faults: 0 };
-  let from = Infinity, to = -Infinity, faults = 0;
-  for (const n of values) {
-    if (n < lowest || n > highest) faults++;
-    else {
-      if (n < from) from = n;
-      if (n > to) to = n;
-    }
-  }
-  return { from, to, faults };
+function wholesOf(parts) {
+  const firsts = parts.map(it => it.first), blocks = [];
+  for (let k = 0; k < parts.length; k += BLOCK) blocks.push(addParts(noParts(), parts, k, Math.min(k + BLOCK, parts.length)));
+  return (first, last) => {
+    const from = sampleAt(firsts, first), to = sampleAt(firsts, last), block = Math.ceil(from / BLOCK), end = Math.floor(to / BLOCK);
+    if (block >= end) return addParts(noParts(), parts, from, to);
+    return addParts(addParts(addParts(noParts(), parts, from, block * BLOCK), blocks, block, end), parts, end * BLOCK, to);
+  };
 }
 
 // The times between a stop of the timer and its next start.
@@ -184,16 +219,6 @@ function pausesOf(time, event, kind) {
     from = kind[i] === 0 ? null : from === null ? time[i] : from;
   }
   return found;
-}
-
-// The first sample at a time or later.
-function sampleAt(time, t) {
-  let low = 0, high = time.length;
-  while (low < high) {
-    const middle = (low + high) >> 1;
-    if (time[middle] < t) low = middle + 1; else high = middle;
-  }
-  return low;
 }
 
 // The places of samples before which a line through these values is interrupted: by a pause, or because none came for ten times the usual
@@ -260,14 +285,14 @@ function ascentOf({ values }) {
 }
 
 // The laps that the file has, each with its samples from `first` up to `last`; after them the rest of a ride that was cut off.
-function lapsOf([end, start, elapsed, timer, length], { time, distance, pauses }) {
+function lapsOf(/** @type {Float64Array[]} */ [end, start, elapsed, timer, length], { time, distance, pauses }) {
   const laps = [];
   const of = (from, to, given) => {
     const first = sampleAt(time, from), last = Math.min(sampleAt(time, to + (given.isLast ? 1 : 0)), time.length);
-    const paused = pauses.reduce((sum, [a, b]) => sum + Math.max(0, Math.min(b, to) - Math.max(a, from)), 0);
-    const { low, high } = extremesOf(distance.subarray(first, last));
-    return { start: from, first, last, timer: given.timer >= 0 ? given.timer : (to - from - paused) * 1000,
-      distance: given.length >= 0 ? given.length : high >= low ? high - low : null, isOpen: Boolean(given.isOpen) };
+    const paused = () => pauses.reduce((sum, [a, b]) => sum + Math.max(0, Math.min(b, to) - Math.max(a, from)), 0);
+    const wayOf = ({ low, high }) => high - low;
+    return { start: from, first, last, timer: given.timer >= 0 ? given.timer : (to - from - paused()) * 1000,
+      distance: given.length >= 0 ? given.length : wayOf(extremesOf(distance.subarray(first, last))), isOpen: Boolean(given.isOpen) };
   };
   for (let i = 0; i < end.length; i++) {
     const from = start[i] === start[i] ? start[i] : i ? end[i - 1] : time[0], to = end[i] === end[i] ? end[i] : from + elapsed[i] / 1000;
@@ -276,4 +301,17 @@ function lapsOf([end, start, elapsed, timer, length], { time, distance, pauses }
   const ended = laps.length ? laps[laps.length - 1].to : time[0], finished = time[time.length - 1];
   if (finished > ended) laps.push({ to: finished, ...of(ended, finished, { isLast: true, isOpen: true }) });
   return laps;
+}
+
+// What is shown of each lap, as columns, with NaN where there is none; and whether the last one was not ended.
+function lapColumns(laps, series) {
+  const column = of => Float64Array.from(laps, of), [heart, power] = ['heart', 'power'].map(name => {
+    const own = series.find(it => it.name === name), wholeIn = own && wholesOf(own.parts);
+    return own ? laps.map(it => wholeIn(it.first, it.last)) : null;
+  });
+  const average = wholes => wholes && Float64Array.from(wholes.map(it => it.sum / it.seconds));
+  const greatest = wholes => wholes && Float64Array.from(wholes.map(it => it.seconds ? it.high : NaN));
+  const columns = { heartAverage: average(heart), heartGreatest: greatest(heart), powerAverage: average(power) };
+  for (const key of ['start', 'timer', 'distance']) columns[key] = column(it => it[key]);
+  return { count: laps.length, ...columns, isOpen: laps.length > 0 && laps[laps.length - 1].isOpen };
 }

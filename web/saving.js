@@ -1,81 +1,152 @@
-// What can be saved of the files of a ride. What is said of it is named by keys of texts.js, each with its values.
+// What can be rescued of the files of a ride. What is said of it is named by keys of texts.js, each with its values.
 
+import { FitError } from './fitrec.mjs';
+import { extremesOf } from './ranges.js';
+import { RECORD, SAMPLE, TIME } from './ride.js';
+
+// The answer is the best rescue: `heading` and `reasons` for the rider, `details` for whoever repairs the device, the file that was made or
+// the one that is shown, whether it is a whole activity and its summary is ours, and the offers of other rescues.
+//
 // `data` and `journal` are bytes or missing, `name` is that of the data file, and `unread` the first byte of it that cannot be read, if
-// there is one. `isPart` is of a file that was chained with others in one. `how` has the offers of earlier answers that were taken.
-async function answerTo(fitrec, ride, how) {
-  if (!ride.data && ride.journal.length) return { ...nothing(['journalAlone'], 'journalAloneNext'), heading: 'missing' };
-  if (!ride.data) return nothing(['emptyFile', { name: ride.journalName }], 'journalAloneNext');
-  if (!ride.data.length) return nothing(['emptyFile', { name: ride.name }], ride.journal ? 'emptyNext' : 'emptyAloneNext');
-  return ride.journal && !how.length ? ofRecording(fitrec, ride) : ofFile(fitrec, ride, how);
+// there is one. `isPart` is of a file that was chained with others in one. All times are moved by `seconds`. `how` has the offers of earlier
+// answers that were taken.
+/** @param {import('./fitrec.mjs').Fitrec} fitrec @param {Given} ride @param {string[]} how @returns {Promise<Answer>} */
+export async function answerTo(fitrec, ride, how) {
+  if (!ride.data && ride.journal.length) return { ...nothing([['journalAlone']], 'journalAloneNext'), heading: 'missing' };
+  if (!ride.data) return nothing([['emptyFile', { name: ride.journalName }]], 'journalAloneNext');
+  if (!ride.data.length) return nothing([['emptyFile', { name: ride.name }]], ride.journal ? 'emptyNext' : 'emptyAloneNext');
+  const answer = await (ride.journal && !how.length ? ofRecording(fitrec, ride) : ofFile(fitrec, ride, how));
+  return how.length && !answer.parts ? { ...answer, offers: [...answer.offers, 'back'] } : answer;
 }
 
-function nothing(reason, next, offers = []) {
-  return { heading: 'nothing', reasons: [reason], next: next ? [[next]] : [], offers };
+/** @param {Said[]} reasons @param {string} [next] @param {Said[]} [details] @returns {Answer} */
+function nothing(reasons, next, details = []) {
+  return { heading: 'nothing', reasons, details, next: next ? [[next]] : [], offers: [] };
 }
 
-const unreadOf = ({ name, unread }) => unread === undefined ? [] : [['unreadFrom', { name, place: unread }]];
+// A new file has a header of so many bytes.
+const HEADER = 14;
 
-// The two files of a recording.
-async function ofRecording(fitrec, ride) {
-  const { data, journal, journalName } = ride, unread = unreadOf(ride);
-  if (!journal.length) return nothing(['emptyFile', { name: journalName }], 'nothingRecordedNext', ['data']);
+const unreadOf = ({ name, unread }) => unread === undefined ? [] : [['unreadWhy', { name }]];
+const unreadAt = ({ name, unread }) => unread === undefined ? [] : [['unreadFrom', { name, place: unread }], ['unreadFix']];
+
+// A file with all its times moved by so many seconds; or as it is, and why they are not moved.
+/** @returns {Promise<Moved>} */
+async function moved(fitrec, file, seconds = 0) {
+  if (!seconds) return { file, reasons: [], details: [] };
   try {
-    const { uncommitted: count, ...saved } = await fitrec.save(data, journal, true), more = count ? [['uncommitted', { count }]] : [];
-    return { heading: 'saved', reasons: [['savedWhy'], ...more, ...unread], next: [], offers: count ? ['end'] : [], ...saved };
+    return { file: await fitrec.shift(file, seconds), seconds, reasons: [['movedWhy']], details: [] };
   } catch (error) {
-    if (error.kind === 'Changed') return ofEarlier(fitrec, ride);
-    if (unread.length && error.kind) return { ...nothing(unread[0], 'unreadNext', ['data']) };
-    if (error.kind === 'NothingRecorded') return nothing(['nothingRecorded'], 'nothingRecordedNext', ['data']);
-    if (error.kind === 'Damaged') return nothing(['damaged'], 'copyNext', ['data']);
-    throw error;
+    if (!error.kind) throw error;
+    return { file, reasons: [['notMoved']], details: error.kind === 'TimeTooFar' ? [['faultTimeTooFar', { place: error.place }]] : [] };
   }
+}
+
+const summaryAt = (summary, seconds = 0) => ({ ...summary, start: summary.start === null ? null : summary.start + seconds });
+
+// Why the two files of a recording are not saved: what is said to the rider, and to whoever repairs the device.
+const REFUSED = { NothingRecorded: ['unconfirmedWhy', 'nothingRecorded'], Damaged: ['pairWhy', 'damaged'],
+  Changed: ['pairWhy', 'changed'] };
+
+// The two files of a recording. Where what was confirmed cannot be told, it is all that can be read of the data file.
+/** @returns {Promise<Answer>} */
+async function ofRecording(fitrec, ride) {
+  const { data, journal, journalName, name } = ride;
+  try {
+    if (!journal.length) throw new FitError('NothingRecorded');
+    const { uncommitted: count, file: whole, summary: first } = await fitrec.save(data, journal, true);
+    // What follows commits without a sample may have some.
+    if (!first.records) throw new FitError('NothingRecorded');
+    const { file, seconds, ...made } = await moved(fitrec, whole, ride.seconds);
+    const end = count ? await endOf(fitrec, data, first, seconds) : null;
+    const details = [['confirmedBytes'], ...(count ? [['uncommitted', { count }]] : []), ...unreadAt(ride), ...made.details];
+    const reasons = [['rescuedWhy'], ...(end ? [['unconfirmed', end]] : []), ...unreadOf(ride), ...made.reasons];
+    return { heading: 'rescued', reasons, details, next: [], offers: end ? ['end'] : [], file, seconds, summary: summaryAt(first, seconds),
+      isWhole: true, isSaved: true, isOurs: true };
+  } catch (error) {
+    const earlier = error.kind === 'Changed' ? await ofEarlier(fitrec, ride) : null;
+    if (earlier) return earlier;
+    if (!(error.kind in REFUSED)) throw error;
+    const [why, detail] = REFUSED[error.kind], isUnread = ride.unread !== undefined;
+    const reasons = isUnread ? [] : [[why, { name, journal: journalName }], ['readWhy', { name }]];
+    const answer = await ofFile(fitrec, ride, [], reasons, [[detail]]);
+    /** @type {Said[]} */
+    const next = isUnread ? [['unreadNext']] : why === 'pairWhy' ? [['copyNext']] : [];
+    return { ...answer, next: next.length ? next : answer.next };
+  }
+}
+
+// How far what can be read goes beyond what was confirmed, with its time moved; null if it does not.
+async function endOf(fitrec, data, { start, elapsed, distance }, seconds = 0) {
+  const { file } = await fitrec.salvage(data, true), expected = Math.ceil(data.length / SAMPLE);
+  const [times, far] = await fitrec.columns(file, RECORD, [TIME, 5], expected);
+  const confirmed = start + elapsed / 1000, ms = 1000 * (times[times.length - 1] - confirmed), cm = extremesOf(far).high - (distance || 0);
+  return ms > 0 ? { time: { time: confirmed + seconds }, length: { ms, cm } } : null;
 }
 
 // The same where bytes have changed: the ride of the commit before the last, if there is one that has not changed.
+/** @returns {Promise<Answer | null>} */
 async function ofEarlier(fitrec, ride) {
   const left = await fitrec.leaveChanged(ride.data, ride.journal);
+  if (!left) return null;
   try {
-    if (!left) throw new FitError('Changed');
-    const { file, summary } = await fitrec.save(ride.data, left.journal), why = ['earlierWhy', { count: left.count }];
-    return { heading: 'earlier', reasons: [['changed'], why, ...unreadOf(ride)], next: [['copyNext']], offers: ['data'], file, summary };
+    const { file: whole, summary } = await fitrec.save(ride.data, left.journal);
+    if (!summary.records) return null;
+    const { file, seconds, ...made } = await moved(fitrec, whole, ride.seconds);
+    const reasons = [['earlierWhy', { end: true }], ...unreadOf(ride), ...made.reasons];
+    const details = [['earlierBytes', { count: left.count }], ...unreadAt(ride), ...made.details];
+    return { heading: 'mostly', reasons, details, next: [['copyNext']], offers: ['data'], file, seconds, summary: summaryAt(summary, seconds),
+      isWhole: true };
   } catch (error) {
     if (!error.kind) throw error;
-    return { ...nothing(['changed'], 'copyNext', ['data']), reasons: [['changed'], ...unreadOf(ride)] };
+    return null;
   }
 }
 
-// One file. If it is damaged, what is readable of it is saved; and after an offer that of the data file of a recording, without or with the
-// end that was not confirmed, or of all its bytes.
-async function ofFile(fitrec, ride, how) {
-  const { data, name, isPart } = ride;
-  let why = unreadOf(ride);
+// One file. If it is damaged, what can be read of it is rescued; and after an offer that of the data file of a recording, without or with
+// the end that was not confirmed, or of all its bytes. `before` is what was said of the recording.
+/** @returns {Promise<Answer>} */
+async function ofFile(fitrec, ride, how, before = [], beforeDetails = []) {
+  const { data, name, isPart, journal } = ride;
+  let why = unreadOf(ride), details = [...beforeDetails, ...unreadAt(ride)], fault = null;
   if (!why.length) {
-    const { summary, kind, place } = await judged(fitrec, data), own = isPart ? { file: data } : { shown: data };
-    const whole = { heading: 'whole', reasons: [[isPart ? 'partWhy' : 'wholeWhy']], next: [], offers: [] };
-    if (!kind && !how.length) return { ...whole, ...own, summary };
-    if (kind in NO_ACTIVITY && !how.length) return { heading: 'noActivity', reasons: [['fault' + kind]], ...finishable(kind), ...own };
-    const parts = kind && !how.length ? await fitrec.split(data) : [];
+    const { summary, kind, place } = await judged(fitrec, data);
+    const own = { next: [], offers: [], ...(isPart ? { file: data } : { shown: data }) };
+    if (!kind && !how.length) {
+      const { file, seconds, ...made } = await moved(fitrec, data, ride.seconds), said = [...details, ...made.details];
+      const reasons = [...made.reasons, [isPart ? 'partWhy' : 'wholeWhy']];
+      const whole = { ...own, heading: 'whole', reasons, details: said, isWhole: true, summary };
+      if (!seconds) return whole;
+      return { ...whole, heading: 'moved', reasons: made.reasons, file, shown: undefined, seconds, summary: summaryAt(summary, seconds) };
+    }
+    if (kind === 'NotActivity') {
+      return { heading: 'otherKind', reasons: [['otherKindWhy']], details: [...details, ['faultNotActivity']], ...own };
+    }
+    const parts = kind && !how.length && !journal ? await fitrec.split(data) : [];
     if (parts.length > 1 && hasHeader(parts[1])) return { parts };
-    why = kind && !(kind in NO_ACTIVITY) ? [['fault' + kind, { place }]] : [];
+    if (kind) details.push(['fault' + kind, { place }]);
+    fault = kind in LACKING ? null : kind;
   }
   try {
-    return await salvaged(fitrec, ride, why, how);
+    return await salvaged(fitrec, ride, { why, details, before, fault, how });
   } catch (error) {
     if (!error.kind) throw error;
-    return { ...nothing(['notFit', { name }], 'notFitNext'), reasons: [['notFit', { name }], ...why] };
+    const format = formatOf(name, data);
+    if (format) return nothing([['otherFormat', { name, format }]]);
+    if (isBlank(data)) return nothing([['blankFile', { name }]], journal ? 'emptyNext' : 'emptyAloneNext', details);
+    return nothing([['notFit', { name }]], 'notFitNext', details);
   }
 }
 
-// So many places that are left out are named.
-const PLACES = 5;
+// What a file lacks that is no damage: it is added.
+const LACKING = { NoFileId: 1, NoLap: 1, NoSession: 1, NoActivity: 1 };
 
-// Why a file is no activity, and what would make it one, if anything does: the text that says so, and the offer.
-const FINISH = ['finishNext', 'finish'];
-const NO_ACTIVITY = { NoFileId: ['fileIdNext', 'fileId'], NotActivity: [], NoLap: FINISH, NoSession: FINISH, NoActivity: FINISH };
+// Another format of activities, by the name of a file or its first bytes.
+const FORMATS = { GPX: /\.gpx$|<gpx\b/i, TCX: /\.tcx$|<TrainingCenterDatabase\b/i };
 
-function finishable(kind) {
-  const [next, offer] = NO_ACTIVITY[kind] || [];
-  return offer ? { next: [[next]], offers: [offer] } : { next: [], offers: [] };
+function formatOf(name, data) {
+  const by = shown => Object.keys(FORMATS).find(it => FORMATS[it].test(shown));
+  return by(name) || by(String.fromCharCode(...data.subarray(0, 400)));
 }
 
 const hasHeader = bytes => String.fromCharCode(...bytes.subarray(8, 12)) === '.FIT';
@@ -85,40 +156,85 @@ const orElse = (answer, other) => answer.catch(error => { if (error.kind) return
 
 const judged = (fitrec, file) => orElse(fitrec.check(file).then(summary => ({ summary })), ({ kind, place }) => ({ kind, place }));
 
-// What is readable of a file, also after its faults; all of it if its checksum is right. With a summary, if that was offered and taken.
-async function salvaged(fitrec, ride, why, how) {
-  const { data, journal } = ride, all = how.includes('all') || how.includes('end'), found = await fitrec.skip(data, all);
-  const { kept, looked, more } = found, isOpen = new DataView(data.buffer, data.byteOffset).getUint32(4, true) === 0;
-  const beside = isOpen && !journal ? [['journalBeside']] : [];
-  if (!kept) return { ...nothing(why[0] || ['noMessage'], 'notFitNext'), reasons: [...(why.length ? why : [['noMessage']]), ...beside] };
-  const withFileId = how.includes('fileId');
-  const made = withFileId || how.includes('finish') ? await finished(fitrec, found.file) : { file: found.file, reasons: [] };
-  const file = await orElse(fitrec.plain(made.file), () => made.file), { summary, kind } = await judged(fitrec, file);
-  const isWhole = made.isFinished && kept === looked && !why.length, isWrong = !isOpen && why.some(([key]) => key === 'faultFileCrc');
-  const counts = isWhole ? [] : keptOf(found, isWrong), { next, offers } = made.reasons.length ? finishable() : finishable(kind);
-  const reasons = [...beside, ...why, ...counts, ...(more ? [['salvagedMore', { more }]] : []), ...made.reasons];
-  const heading = !isWhole ? 'salvaged' : withFileId ? 'withFileId' : 'finished';
-  return { heading, reasons, next, offers: [...(more && !all ? ['all'] : []), ...offers], file, summary };
+// What can be read of a file, also after its faults; all of it if its checksum is right. Laps and totals are added where they are missing.
+/** @returns {Promise<Answer>} */
+async function salvaged(fitrec, ride, { why, details, before, fault, how }) {
+  const { data, journal } = ride, isEnd = how.includes('end'), all = how.includes('all') || isEnd, found = await fitrec.skip(data, all);
+  const { kept, looked, more } = found, stated = hasHeader(data) ? new DataView(data.buffer, data.byteOffset).getUint32(4, true) : looked;
+  // A recording that was not closed has no length and no checksum, so none of its values are in doubt.
+  const isOpen = !stated, isAlone = isOpen && !journal;
+  /** @type {Said[]} */
+  const next = isAlone ? [['journalBeside']] : [];
+  if (!kept) return { ...nothing([...why, ['noMessage']], 'notFitNext', details), ...(isAlone ? { next } : {}) };
+  // Its times are moved first: by those of a clock that began anew no totals can be told.
+  const { file: sound, seconds, ...timed } = await moved(fitrec, found.file, ride.seconds);
+  const { summary, kind } = await judged(fitrec, sound), isLacking = kind in LACKING && !how.includes('bare');
+  const made = isLacking ? await finished(fitrec, sound, kind) : { file: sound, reasons: [], details: [] };
+  const file = await orElse(fitrec.plain(made.file), () => made.file), gaps = await gapsOf(fitrec, found, data, all), reasons = [...before, ...why];
+  // A file that was given more room than it needed is whole.
+  const isMore = more && !all && !isBlank(data.subarray(data.length - more));
+  const isInside = gaps.some(it => !it.isLast), isWrong = fault === 'FileCrc' && !isOpen, size = Math.max(looked, all ? 0 : stated);
+  const isCut = fault === 'Truncated' && size - kept > TORN || gaps.some(it => it.isLast);
+  const isDamaged = isInside || fault && fault !== 'Truncated' && !(fault === 'TrailingBytes' && isMore) && !isOpen;
+  if (kind === 'NotActivity') reasons.push(['otherKindWhy']);
+  if (isEnd) reasons.push(['endAdded']);
+  else if (isAlone) reasons.push(['notClosed', { end: true }]);
+  else if (isDamaged && gaps.length && !before.length) reasons.push(['wasDamaged']);
+  else if (isCut) reasons.push(['cutOff', { end: true }]);
+  if (isDamaged) reasons.push(gaps.length ? ['missingParts', { gaps: true }] : ['allThere']);
+  if (isWrong || isInside) reasons.push(['mayBeWrong']);
+  if (isMore) reasons.push(['goesOn']);
+  const said = [...details, ...keptOf(found), ...(more ? [['salvagedMore', { more }]] : []), ...made.details, ...timed.details];
+  const heading = isEnd || !gaps.length && !isCut ? 'rescued' : kept >= size / 2 ? 'mostly' : 'partly';
+  return { heading: kind === 'NotActivity' ? 'otherKind' : heading, reasons: [...reasons, ...made.reasons, ...timed.reasons],
+    details: said, next, offers: [...(isMore ? ['all'] : []), ...(made.isFinished ? ['bare'] : [])], file, seconds, summary, gaps,
+    isWhole: made.isFinished || !kind, isOurs: made.isFinished && kind !== 'NoActivity' };
 }
 
-// With laps and totals, or why there are none.
-async function finished(fitrec, file) {
+// With what it lacks, or why that is not there.
+async function finished(fitrec, file, kind) {
   try {
     const made = await fitrec.finish(file), left = made.leftOut ? [['finishedLeft', { count: made.leftOut }]] : [];
-    return { file: made.file, isFinished: true, reasons: [['finishedWhy', { heard: made.heard }], ...left] };
+    const reasons = [[{ NoFileId: 'fileIdAdded', NoActivity: 'endingAdded' }[kind] || 'completed']];
+    return { file: made.file, isFinished: true, reasons, details: [['finishedWhy', { heard: made.heard }], ...left] };
   } catch (error) {
     if (!error.kind) throw error;
-    return { file, reasons: [['fault' + error.kind]] };
+    return { file, reasons: error.kind === 'NoSample' ? [['noTotals']] : [], details: [['fault' + error.kind]] };
   }
 }
 
-// What is said of the bytes that are kept, and of those that are left out. Where some are left out before others, or the checksum is wrong,
-// values in what is kept may have changed too.
-function keptOf({ kept, looked, pieces }, isWrong) {
-  const count = pieces.filter(it => it.kept).length, left = pieces.filter(it => !it.kept);
+// So many places that are left out are named.
+const PLACES = 5;
+
+// What is said of the bytes that are kept, and of those that are left out.
+function keptOf({ kept, looked, pieces }) {
+  const count = pieces.filter(it => it.kept).length, left = pieces.filter(it => !it.kept), more = left.length - PLACES;
   const places = left.slice(0, PLACES).map(({ start, end }) => ['leftOutAt', { count: end - start, place: start }]);
-  if (left.length > PLACES) places.push(['leftOutMore', { count: left.length - PLACES }]);
-  const isDamaged = isWrong || pieces.slice(0, -1).some(it => !it.kept);
-  return [[count === 1 ? 'keptOne' : 'keptParts', { kept, looked, count }], ...(left.length ? [['leftOut', { places }]] : []),
-    ...(isDamaged ? [['mayBeWrong']] : [])];
+  if (more > 0) places.push(more === 1 ? ['leftOutOne'] : ['leftOutMore', { count: more }]);
+  return [[count === 1 ? 'keptOne' : 'keptParts', { kept, looked, count }], ...(left.length ? [['leftOut', { places }]] : [])];
+}
+
+// Whether bytes were never written: then nothing of the ride is lost with them.
+const isBlank = bytes => (bytes[0] === 0 || bytes[0] === 255) && bytes.every(n => n === bytes[0]);
+
+// A message that was torn at the end has at most so many bytes, and a checksum so many.
+const TORN = 256, CHECKSUM = 2;
+
+// Where something is left out: for the largest of these places how many samples are kept before it, and whether it is the end of the file.
+// Where all bytes are looked at, what comes last may be of another ride.
+async function gapsOf(fitrec, { file, pieces }, data, all) {
+  /** @type {Gap[]} */
+  const gaps = [];
+  let at = HEADER;
+  for (const { start, end, kept } of pieces) {
+    const isLast = at === file.length - CHECKSUM, size = end - start;
+    if (kept) at += size;
+    else if (isLast ? !all && size > TORN && !isBlank(data.subarray(start, end)) : end > HEADER) gaps.push({ at, isLast, size });
+  }
+  for (const gap of [...gaps].sort((a, b) => b.size - a.size).slice(0, PLACES)) {
+    const before = await orElse(fitrec.salvage(file.subarray(0, gap.at), true), () => ({ kept: 0 }));
+    gap.before = before.kept ? (await fitrec.columns(before.file, RECORD, [TIME], Math.ceil(gap.at / SAMPLE)))[0].length : 0;
+  }
+  // Between the same two samples one is missing.
+  return gaps.filter(({ before }, k) => before === undefined || gaps.findIndex(other => other.before === before) === k);
 }

@@ -10,6 +10,14 @@ addEventListener('activate', event => {
   event.waitUntil(old().then(it => Promise.all(it)).then(() => clients.claim()));
 });
 
-addEventListener('fetch', event => {
-  event.respondWith(caches.open(NAME).then(cache => cache.match(event.request)).then(kept => kept || fetch(event.request)));
-});
+// The page is the same under every query. Where the folder itself is opened, what a server gives there goes first.
+const isFolder = ({ mode, url }) => mode === 'navigate' && url.split(/[?#]/)[0] === registration.scope;
+
+async function answerTo(request) {
+  const cache = await caches.open(NAME);
+  if (!isFolder(request)) return await cache.match(request, { ignoreSearch: true }) || fetch(request);
+  const given = await fetch(request).catch(() => null);
+  return given && given.ok ? given : cache.match('fitrec.html');
+}
+
+addEventListener('fetch', event => event.respondWith(answerTo(event.request)));

@@ -1,12 +1,16 @@
 // The track of a ride: coloured by a series, with its start, its finish, a scale, and the place that is pointed at.
 
-function trackPicture(track) {
-  const { width, height, count, paths, metres } = track, at = ([x, y], element) => placed(element, x / width * 100, y / height * 100);
+import { make, path, placed, svg } from './dom.js';
+import { FOOT, inMiles, nameText, numberText, text, valueText } from './formats.js';
+
+/** @param {Track} track */
+export function trackPicture(track) {
+  const { width, height, count, paths, metres } = track, at = (/** @type {number[]} */ [x, y], element) => placed(element, x / width * 100, y / height * 100);
   const label = text('trackLabel', { n: count });
   const drawn = svg({ viewBox: `0 0 ${width} ${height.toFixed(1)}`, role: 'img', 'aria-label': label });
   const map = make('div', { className: 'map' }, drawn,
-    at(track.finishAt, make('span', { className: 'mark finish', title: text('finish') })),
-    at(track.startAt, make('span', { className: 'mark begin', title: text('start') })),
+    at(track.finishAt, make('span', { className: 'mark finish' + beside(track, 1), title: text('finish') })),
+    at(track.startAt, make('span', { className: 'mark begin' + beside(track, -1), title: text('start') })),
     make('span', { className: 'mark here', hidden: true }), scaleOf(width, metres));
   const legend = make('div', { className: 'legend' });
   const colour = name => {
@@ -16,7 +20,7 @@ function trackPicture(track) {
     const ramp = make('span', { className: 'ramp', 'aria-hidden': true }, ...classes);
     legend.replaceChildren(...(name === 'plain' ? [] : [valueText(name, from), ramp, valueText(name, to)]));
   };
-  const choice = make('select', { id: 'colour' }, ...[...paths].reverse().map(it => make('option', { value: it.name }, text(it.name))));
+  const choice = make('select', { id: 'colour' }, ...[...paths].reverse().map(it => make('option', { value: it.name }, nameText(it.name))));
   choice.addEventListener('change', () => colour(choice.value));
   choice.value = paths.length > 1 ? paths[1].name : 'plain';
   colour(choice.value);
@@ -27,17 +31,29 @@ function trackPicture(track) {
   return make('figure', { className: 'track' }, caption, map, make('div', { className: 'under' }, keys, legend));
 }
 
+// Marks of a start and a finish that would cover each other stand side by side.
+const CLOSE = 45;
+
+/** @param {Track} track @param {number} side */
+function beside({ startAt, finishAt }, side) {
+  const [x, y] = startAt.map((n, k) => finishAt[k] - n);
+  return Math.hypot(x, y) < CLOSE ? (x < 0 ? -side : side) < 0 ? ' left' : ' right' : '';
+}
+
 // A line of a round length.
 function scaleOf(width, metres) {
-  const most = width / 3 * metres, power = 10 ** Math.floor(Math.log10(most)), length = power * [5, 2, 1].find(it => it * power <= most);
-  const shown = length >= 1000 ? text('km', { n: numberText(length / 1000) }) : text('metres', { n: numberText(length) });
-  const line = make('span', { className: 'scale' }, shown);
-  line.style.width = length / metres / width * 100 + '%';
+  const [large, small, ratio, unit] = inMiles() ? ['miles', 'feet', 5280, FOOT] : ['km', 'metres', 1000, 1];
+  const most = width / 3 * metres / unit, whole = most >= ratio ? ratio : 1, power = 10 ** Math.floor(Math.log10(most / whole));
+  const count = power * [5, 2, 1].find(it => it * power <= most / whole), line = make('span', { className: 'scale' });
+  line.textContent = text(whole > 1 ? large : small, { n: numberText(count) });
+  line.style.width = count * whole * unit / metres / width * 100 + '%';
   return line;
 }
 
 // Shows where a sample was.
-function pointAt({ track, lat, long }, pictures, i) {
+/** @param {Drawn} ride @param {HTMLElement} pictures @param {number} i */
+export function pointAt({ track, lat, long }, pictures, i) {
+  /** @type {HTMLElement | null} */
   const here = pictures.querySelector('.here');
   if (!here) return;
   here.hidden = !(lat[i] === lat[i] && long[i] === long[i]);
@@ -45,12 +61,14 @@ function pointAt({ track, lat, long }, pictures, i) {
   placed(here, x / track.width * 100, y / track.height * 100);
 }
 
-function placeOn({ width, height, scale, narrow, middleX, middleY }, lat, long) {
+/** @param {Frame} frame @param {number} lat @param {number} long */
+export function placeOn({ width, height, scale, narrow, middleX, middleY }, lat, long) {
   return [width / 2 + (long - middleX) * narrow * scale, height / 2 + (middleY - lat) * scale];
 }
 
 // Reports the sample that is nearest to the pointer over the track.
-function followTrack({ track, lat, long }, pictures, report) {
+/** @param {Drawn} ride @param {HTMLElement} pictures @param {(i: number) => void} report */
+export function followTrack({ track, lat, long }, pictures, report) {
   const map = pictures.querySelector('.map');
   if (!map) return;
   const follow = event => {

@@ -1,9 +1,14 @@
 // What the workers do, so that the page never stands still: one judges and saves, while the other reads and draws. Both are of this source.
 
+import { curveOf, trackOf } from './drawing.js';
+import { open } from './fitrec.mjs';
+import { rideOf, tablesOf } from './ride.js';
+import { answerTo } from './saving.js';
+
 let ready;
 const opened = new Promise(done => { ready = done; });
 
-onmessage = async ({ data: { module, number, ride, how, files, records } }) => {
+onmessage = async ({ data: { module, number, ride, how, files, records, gaps = [], isOurs } }) => {
   if (module) return ready(open(module));
   const report = step => postMessage({ number, step });
   try {
@@ -11,21 +16,22 @@ onmessage = async ({ data: { module, number, ride, how, files, records } }) => {
     if (ride) {
       const answer = await answerTo(fitrec, ride, how), { parts = [] } = answer;
       for (const it of ['file', 'shown']) if (answer[it]) answer[it] = new Blob([answer[it]], { type: 'application/octet-stream' });
-      return postMessage({ number, answer }, parts.map(it => it.buffer));
+      return postMessage({ number, answer }, { transfer: parts.map(it => it.buffer) });
     }
     const tables = await tablesOf(fitrec, files, records);
     report(2);
-    const answer = drawn(tables, () => report(3));
+    const answer = drawn(tables, { gaps, isOurs }, () => report(3));
     const lent = [answer.time, answer.lat, answer.long, answer.distance, ...answer.series.map(it => it.values)];
-    postMessage({ number, answer }, lent.map(it => it.buffer));
+    postMessage({ number, answer }, { transfer: lent.map(it => it.buffer) });
   } catch (error) {
-    postMessage({ number, failed: error instanceof RangeError ? 'tooLarge' : error.kind || 'unexpected' });
+    const isUnread = error.name === 'NotReadableError';
+    postMessage({ number, failed: error instanceof RangeError ? 'tooLarge' : isUnread ? 'unread' : error.kind || 'unexpected' });
   }
 };
 
 // What the page shows of a ride.
-function drawn(tables, report) {
-  const { breaks, ...ride } = rideOf(tables), track = trackOf({ ...ride, breaks });
+function drawn(tables, about, report) {
+  const { breaks, ...ride } = rideOf(tables, about), track = trackOf({ ...ride, breaks });
   report();
   const series = ride.series.map(({ parts, breaks: own, ...it }) => {
     return { ...it, curve: ride.time.length > 1 ? curveOf(ride.time, { ...it, parts, breaks: own }) : null };

@@ -18,7 +18,8 @@ function header(...numbers) {
 }
 
 // Each file has a name of plain letters and a Blob.
-async function zipOf(files) {
+/** @param {{ name: string, file: Blob }[]} files @returns {Promise<Blob>} */
+export async function zipOf(files) {
   const parts = [], ends = [];
   let at = 0, endSize = 0;
   for (const { name, file } of files) {

@@ -1,7 +1,7 @@
 /* Times the steps of a recorder in a device, whose plans nobody carries out. */
 
 #define _POSIX_C_SOURCE 199309L
-#include "fitrec.h"
+#include "fitrec_device.h"
 #include <stdio.h>
 #include <time.h>
 

@@ -9,6 +9,8 @@ from tools.reader import BASE_TYPES, whole_number
 MESSAGE, MOST, COLUMNS = 206, 256, 128
 # Its fields.
 INDEX, NUMBER, TYPE, NAME, SCALE, OFFSET, UNITS = 0, 1, 2, 3, 6, 7, 8
+# The most bytes of a name and of units in the Profile.
+NAME_SIZE, UNITS_SIZE = 64, 16
 # The scales and the offsets that count, of whatever type they are. How many decimals a scale needs; any other has eight.
 SCALES, OFFSETS = range(1, 256), range(-128, 128)
 PLACES = {1: 0, 10: 1, 100: 2}

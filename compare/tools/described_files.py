@@ -2,7 +2,7 @@
 or have one of another type or size; descriptions that come again, or too late; and more of them than count."""
 
 from tools.contents import STRINGS, content_made
-from tools.described import INDEX, MESSAGE, MOST, NAME, NUMBER, OFFSET, SCALE, TYPE, UNITS
+from tools.described import INDEX, MESSAGE, MOST, NAME, NAME_SIZE, NUMBER, OFFSET, SCALE, TYPE, UNITS, UNITS_SIZE
 from tools.fit_files import framed
 from tools.reader import BASE_TYPES
 
@@ -38,7 +38,11 @@ def number_field(pick, big, wrong, field, base, value):
 
 
 def text_field(pick, wrong, field):
-    text = pick.choice(STRINGS) + pick.choice([b"", b"\0", b"\0rest"])
+    """A text; one in five has about as many bytes as the Profile has at most, or as a field."""
+    text = pick.choice(STRINGS)
+    if pick.random() < 0.2:
+        text = (text * 255)[:(NAME_SIZE if field == NAME else UNITS_SIZE) + pick.choice([-1, 0, 0, 1, 1, 180])]
+    text += pick.choice([b"", b"\0", b"\0rest"])
     return field, pick.choice([STRING, UINT8, 0xFF]) if wrong else STRING, text
 
 

@@ -4,11 +4,14 @@ import contextlib
 import os
 import re
 import subprocess
+import sys
 import tempfile
 
 from tools.checks import differs
-from tools.kit import load_rt
 from tools.program import ROOT, run
+
+sys.path.insert(0, str(ROOT))
+from kept import load_rt
 
 COMPILERS = {"as it is": ["-O2"], "under sanitizers": ["-g", "-fsanitize=address,undefined", "-fno-sanitize-recover=all"]}
 WARNINGS = ["-Wall", "-Wextra", "-Werror", "-I", ROOT / "include"]
@@ -40,13 +43,18 @@ def programs(*sources, words=("-std=gnu11",)):
 
 
 def declared():
-    """The calls that the header declares, those of fit_c and those of a recorder in a device."""
-    text = (ROOT / "include/fitrec.h").read_text()
-    return [re.findall(r"^uint\w+_t (\w+)\(", part, re.M) for part in text.split("/* A recorder in a device.")]
+    """The calls that the headers declare: those of fit_c, those of fit_device, and those of the session over it."""
+    kinds = ("fitrec", r"uint\w+_t"), ("fitrec_device", "FITREC_CHECKED uint8_t"), ("fitrec_device", "FITREC_CHECKED enum fitrec_answer")
+    return [re.findall(r"^%s (\w+)\(" % kind, (ROOT / ("include/%s.h" % name)).read_text(), re.M) for name, kind in kinds]
+
+
+def decided():
+    """The calls of fit_device that no header declares: what the session asks it to decide."""
+    return re.findall(r"^uint\w+_t (fitrec_session_\w+)\(", (ROOT / "device/session.c").read_text(), re.M)
 
 
 def names_of(archive, calls):
     """A library calls only three functions of C, and exports exactly these calls."""
     listed = run("nm", archive)[1]
-    yield "what it calls", differs(set(re.findall(r" U (\w+)", listed)), {"memcpy", "memmove", "memset"})
+    yield "what it calls", differs(set(re.findall(r" U (\w+)", listed)) - {*calls}, {"memcpy", "memmove", "memset"})
     yield "what it exports", differs(sorted(re.findall(r" T (\w+)", listed)), sorted(calls))

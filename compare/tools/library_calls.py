@@ -12,7 +12,7 @@ from finishing import Maker, recorded, ride
 from tools import reader
 from tools.checks import differs
 from tools.described_files import described_file
-from tools.fit_files import damaged, made
+from tools.fit_files import compressed_ride, damaged, framed, long_content, made, widest
 from tools.program import NAMES, bytes_of, holds, room, run
 from tools.reader import checksum, names_of
 from tools.rides import damaged_pair, script_of, uncommitted
@@ -22,7 +22,8 @@ CLOSING, FRAME = 254, 16
 # The answer that each line of the program on standard error stands for: of a recording, and of a file.
 ANSWERS = {"NothingRecorded": 7, "Damaged": 8, "Truncated": 1, "HeaderSize": 2, "Magic": 3, "Protocol": 4, "HeaderCrc": 5, "UndefinedLocal": 6,
            "SplitMessage": 7, "FileCrc": 8, "TrailingBytes": 9, "NoFileId": 11, "NotActivity": 12, "NoLap": 13, "NoSession": 14, "NoActivity": 15,
-           "TooLong": 21, "TooLarge": 21, "NoSample": 26}
+           "TooLong": 21, "TooLarge": 21, "NoSample": 26, "NoTime": 27,
+           "TimeTooFar": 28}
 
 
 def answer_of(said):
@@ -280,6 +281,50 @@ def plainly(fitrec, program, source, mine, its):
     mine.unlink(missing_ok=True)
     its.unlink(missing_ok=True)
     return difference
+
+
+def shifted(fitrec, program, source, mine, its, how, number):
+    """What differs between a file whose times are moved by the library, which gives a place only for a fault of the file and for a time that
+    is too far, and by the program."""
+    said, wanted = run(program, how, number, source, mine), run(fitrec, "shift", "--start" if how == "start" else "--by", number, source, its)
+    answer, place = answer_of(wanted), place_in(wanted)
+    lines = "%d\n%s" % (answer, "at %s\n" % place[1] if 1 <= answer <= 9 or answer == ANSWERS["TimeTooFar"] else "")
+    difference = differs((said, bytes_of(mine)), ((0, lines, ""), bytes_of(its)), (how, number))
+    mine.unlink(missing_ok=True)
+    its.unlink(missing_ok=True)
+    return difference
+
+
+def beyond(program, source, mine):
+    """What differs, for a file with a time, from the answer to more seconds than there are times: the place of the first message that has one."""
+    least = run(program, "shift", 4294967294, source, mine), run(program, "shift", -4294967294, source, mine)
+    for seconds, said in (1 << 62, least[0]), (-(1 << 63), least[1]):
+        yield differs(run(program, "shift", seconds, source, mine), said, seconds)
+
+
+def of_shifted(fitrec, program, count, seed):
+    """Files that are made at random, whole and damaged, rides, and files at their limits, whose times are moved by seconds and to a start;
+    and by more seconds than the program takes, which no time of a ride is moved by."""
+    pick = random.Random(seed)
+    with room() as (script, new):
+        folder = pathlib.Path(new())
+        source, mine, its = (folder / name for name in ("in.fit", "mine.fit", "its.fit"))
+        files = [made(pick) for _ in range(2 * count)] + [damaged(pick, made(pick)) for _ in range(count // 2)]
+        script.write_text(script_of(20, 4))
+        run(fitrec, "replay", script, new_ride := new())
+        rides = [holds(new_ride)[0], compressed_ride(40)]
+        # a definition that announces developer fields and has none, before the message that is refused
+        record = bytes([0x41, 0, 0, 20, 0, 2, 253, 4, 0x86, 3, 1, 2])
+        longer = framed(bytes([0x60, 0, 0, 20, 0, 0, 0]) + record + b"\1" + (100).to_bytes(4, "little") + b"d\1" + (5).to_bytes(4, "little") + b"d")
+        for content in files + rides + [longer, widest(254), widest(255), long_content(65536), framed(b""), b""]:
+            source.write_bytes(content)
+            for how, numbers in ("shift", [pick.choice([0, 1, -1, -6, 31, -32, 3600, 1 << 31, 4294967294, -4294967294])]), ("start", [5000, 1100000000]):
+                for number in numbers:
+                    yield "times that are moved", shifted(fitrec, program, source, mine, its, how, number)
+        for content in rides:
+            source.write_bytes(content)
+            for difference in beyond(program, source, mine):
+                yield "more seconds than there are times", difference
 
 
 def all_fields(data, message):

@@ -1,13 +1,14 @@
 """The page in a browser: as an app without a connection, and with a long ride."""
 
 import http.server
+import itertools
 import pathlib
 import threading
 
 from tools.checks import differs, unless
-from tools.pages import RIDE, START, both, recorded
+from tools.pages import RIDE, START, both, of_module, recorded
 from tools.program import bytes_of, run
-from tools.visits import PAGE, SAVED, WINDOWS, Browser
+from tools.visits import PAGE, RESCUED, WIDTHS, WINDOWS
 
 # The most milliseconds of a ride of 16 MB, and between two turns of the page, on a machine that others use too. Where that is slow, the
 # page may wait for a quarter of the time.
@@ -20,7 +21,7 @@ def most_still(seen):
 
 
 class Server(http.server.SimpleHTTPRequestHandler):
-    """Gives the files of web/out, and logs nothing. The page is given twice: to be opened, and to be kept."""
+    """Gives the files of web/out, and logs nothing. The page is what the folder gives, too. It is given twice: to be opened, and to be kept."""
 
     given = 0
 
@@ -28,8 +29,11 @@ class Server(http.server.SimpleHTTPRequestHandler):
         super().__init__(*words, directory=str(PAGE.parent))
 
     def do_GET(self):
-        Server.given += self.path == "/fitrec.html"
-        if self.path == "/fitrec.html" and Server.given > 2:
+        if self.path.partition("?")[0] == "/":
+            self.path = "/fitrec.html"
+        is_page = self.path.partition("?")[0] == "/fitrec.html"
+        Server.given += is_page
+        if is_page and Server.given > 2:
             return self.send_error(503)
         return super().do_GET()
 
@@ -41,29 +45,38 @@ class Server(http.server.SimpleHTTPRequestHandler):
         pass
 
 
-def of_an_app(fitrec, folder, shots=None):
+def of_an_app(fitrec, folder, browser):
     """The page is installed where it is served, and saves a ride without a connection."""
     torn = recorded(fitrec, folder / "torn", RIDE)
     run(fitrec, "save", torn, folder / "ride.fit")
     Server.given = 0
     server = http.server.ThreadingHTTPServer(("127.0.0.1", 0), Server)
     threading.Thread(target=server.serve_forever, daemon=True).start()
-    browser, address = Browser(folder, shots), "http://127.0.0.1:%d/fitrec.html" % server.server_port
+    address = "http://127.0.0.1:%d/fitrec.html" % server.server_port
+    ready = {"evaluate": "navigator.serviceWorker.ready.then(it => new Promise(done => setTimeout(() => done(it.active.state), 500)))"}
 
     def judge(shown, made):
-        yield "it is installed", differs(made[1], [])
-        yield "without a connection", differs(shown[4]["heading"], SAVED)
-        yield "the file", differs(bytes_of(pathlib.Path(made[5])), (folder / "ride.fit").read_bytes())
+        yield "without a connection", differs(shown[3]["heading"], RESCUED)
+        yield "the file", differs(bytes_of(pathlib.Path(made[4])), (folder / "ride.fit").read_bytes())
 
-    ready = {"evaluate": "navigator.serviceWorker.ready.then(it => new Promise(done => setTimeout(() => done(it.active.state), 500)))"}
+    steps = [ready, {"reload": True}, {"wait": 1}, {"files": both(torn)}, {"download": "#save"}]
     for window in WINDOWS:
-        steps = [ready, {"installed": True}, {"reload": True}, {"wait": 1}, {"files": both(torn)}, {"download": "#save"}]
         browser.visit("an app, %s" % window, steps, judge, address=address, **WINDOWS[window])
+    if browser.name == "chromium":
+        browser.visit("an app", [ready, {"installed": True}], lambda shown, made: [("it is installed", differs(made[1], []))], address=address)
     yield from browser.outcomes()
     server.shutdown()
+    # Every address under which the page is opened, each in a browser of its own.
+    for (name, window), query in itertools.product(WIDTHS.items(), ("", "?x=y", "fitrec.html?x=y", "fitrec.html#x")):
+        Server.given = 0
+        server = http.server.ThreadingHTTPServer(("127.0.0.1", 0), Server)
+        threading.Thread(target=server.serve_forever, daemon=True).start()
+        browser.visit("opened as /%s, at %s" % (query, name), steps, judge, address="http://127.0.0.1:%d/%s" % (server.server_port, query), **window)
+        yield from browser.outcomes()
+        server.shutdown()
 
 
-def of_a_long_ride(fitrec, folder, shots=None):
+def of_a_long_ride(fitrec, folder, browser):
     """A long ride does not let the page stand still, and shows how far it is."""
     lines = ["start %d 7 cycling" % START]
     for i in range(700_000):
@@ -85,19 +98,24 @@ def of_a_long_ride(fitrec, folder, shots=None):
           last = now;
         }, 5);
       })()"""
-    short = "(([data, journal]) => question(saver, { ride: { data, journal }, how: [] }).then(it => [it.heading, it.summary]))(shortRide())"
-    browser = Browser(folder, shots)
+    # What runs unseen before it is a ride that a device left.
+    short = folder / "short"
+    short.mkdir()
+    for file, content in zip(both(short), of_module("rehearsal.js", "it.shortRide().map(part => [...part])")):
+        file.write_bytes(bytes(content))
+    said = run(fitrec, "save", short, folder / "short.fit")[1]
+    is_ride = "ok records=2000 laps=1 sessions=1" in said and "elapsed_ms=1999000" in said
+    yield "the short ride that runs before", unless(is_ride, said, "2,000 samples")
 
     def judge(shown, made):
-        seen, (heading, summary) = made[3:5]
-        yield "it is saved and drawn", differs((shown[-1]["heading"], len(shown[-1]["curves"])), (SAVED, 6))
+        seen = made[3]
+        yield "it is saved and drawn", differs((shown[-1]["heading"], len(shown[-1]["curves"])), (RESCUED, 6))
         # On a quiet machine docs/PERFORMANCE.md has the figure. Here others may run.
         yield "in time", unless(seen["ended"] < MOST_MS, seen, "at most %d ms" % MOST_MS)
         yield "it never stands still", unless(seen["gap"] < most_still(seen), seen, "at most %d ms" % most_still(seen))
-        yield "the short ride that ran before it", differs((heading, summary["records"], summary["elapsed"]), ("saved", 2000, 1_999_000))
         yield "progress from 0.3 s on", unless(250 < (seen["progress"] or 0) < 300 + most_still(seen), seen, "about 300 ms")
 
     for window in ("wide", "narrow and dark"):
-        steps = [{"evaluate": watch}, {"files": both(where)}, {"wait": 100}, {"evaluate": "window.seen"}, {"evaluate": short}]
+        steps = [{"evaluate": watch}, {"files": both(where)}, {"wait": 100}, {"evaluate": "window.seen"}]
         browser.visit("a long ride, %s" % window, steps, judge, **WINDOWS[window])
     yield from browser.outcomes()

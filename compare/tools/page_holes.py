@@ -9,27 +9,43 @@ import zipfile
 from tools.checks import differs, unless
 from tools.pages import RIDE, ascent_of, recorded, rows, series_of, tour
 from tools.program import NAMES, bytes_of, run
-from tools.visits import ADD, NOTHING, READABLE, WINDOWS, Browser
+from tools.visits import COMPLETED, FINE, MOSTLY, NOTHING, PARTLY, RESCUED, WINDOWS
 
-UNFINISHED = "The file is readable, but is not a finished activity"
-MAY_BE_WRONG = "The new file may have values that the damage changed."
-# The button with this text.
-PRESS = "[...document.querySelectorAll('#offers button')].find(it => it.innerText === '%s').id = 'pressed'"
-
-
-def presses(*names):
-    return [step for name in names for step in ({"evaluate": PRESS % name}, {"click": "#pressed"})]
+MAY_BE_WRONG = "Some values may be wrong."
 
 
 def said_by(printed):
-    """What the page says of bytes that are kept and left out, by the lines that the program prints: words that its reason has."""
+    """What the page says of bytes that are kept and left out, to whoever repairs the device, by the lines that the program prints."""
     kept, looked, parts = re.search(r"kept (\d+) of (\d+), parts (\d+)", printed).groups()
     left = re.findall(r"left out (\d+) at (\d+)", printed)
     number = lambda it: f"{int(it):,}"
     count = "in one part" if parts == "1" else "in %s parts" % parts
     places = ["%s bytes at byte %s" % (number(size), number(at)) for size, at in left[:5]]
-    more = ["%d more places" % (len(left) - 5)] * (len(left) > 5)
+    more = ["%d more places" % (len(left) - 5) if len(left) > 6 else "one more place"] * (len(left) > 5)
     return ["%s of %s bytes are readable, %s" % (number(kept), number(looked), count), *places, *more]
+
+
+def missing_by(data, kept):
+    """What the page says of samples that are missing in what is kept of a ride: from when to when, where it is more than some seconds."""
+    there, found, run_of = {it["timestamp"] for it in rows(kept)}, [], []
+    for it in [*rows(data), None]:
+        if it is not None and it["timestamp"] not in there:
+            run_of.append(it["timestamp"])
+        elif run_of:
+            before, after = max(t for t in there if t < run_of[0]), min((t for t in there if t > run_of[-1]), default=None)
+            found += [(before, after)] if after and after - before > 10 else []
+            run_of = []
+    return found
+
+
+def clock_of(time):
+    hours, rest = divmod(time % 86400, 3600)
+    return "%d:%02d:%02d %s" % (hours % 12 or 12, *divmod(rest, 60), "PM" if hours > 11 else "AM")
+
+
+def length_of(seconds):
+    minutes, rest = divmod(seconds, 60)
+    return " ".join(["%d min" % minutes] * (minutes > 0) + ["%d sec" % rest] * (rest > 0))
 
 
 def heard_by(printed):
@@ -45,9 +61,9 @@ def with_holes(data, places):
     return bytes(data)
 
 
-def of_holes(fitrec, folder, shots=None):
+def of_holes(fitrec, folder, browser):
     """What is saved around holes, without a header, and with laps and totals that were missing."""
-    browser, where = Browser(folder, shots), recorded(fitrec, folder / "tour", tour(900))
+    where = recorded(fitrec, folder / "tour", tour(900))
     run(fitrec, "save", where, folder / "whole.fit")
     whole = (folder / "whole.fit").read_bytes()
     made = lambda name, content: [(folder / name, (folder / name).write_bytes(content))[0]][0]
@@ -58,56 +74,67 @@ def of_holes(fitrec, folder, shots=None):
         printed = run(fitrec, "salvage", *words, "--plain", file, to)[1]
         return bytes_of(to), printed
 
-    def judged(heading, words, content, offers):
+    def judged(heading, words, details, content, is_bare=False):
         def judge(shown, made):
             last = shown[-1]
-            missing = [it for it in words if it not in last["reason"] + " " + last["next"]]
-            is_right = last["heading"] == heading and not missing
-            yield "what it says", unless(is_right, (last["heading"], last["reason"], last["next"]), (heading, words))
+            absent = [it for it in words if it not in last["reason"] + " " + last["next"]] + [it for it in details if it not in last["details"]]
+            is_right = last["heading"] == heading and not absent
+            yield "what it says", unless(is_right, (last["heading"], last["reason"], last["next"], last["details"]), (heading, absent))
             yield "the file", differs(bytes_of(pathlib.Path(made[-1])) if content else last["download"] or None, content)
-            yield "offers", differs(last["offers"], offers)
             if content:
-                yield "samples", differs(last["numbers"]["Samples"], f"{len(rows(content)):,}")
-            if content and ADD not in offers:
-                yield "laps", differs(last["numbers"].get("Laps", "0"), str(len(rows(content, 19))))
+                yield "samples", differs(last["numbers"].get("Samples", "0"), f"{len(rows(content)):,}")
+                # A lap that was not ended is shown too.
+                yield "laps", differs(last["numbers"].get("Laps", "0"), str(len(rows(content, 19)) + is_bare))
         return judge
 
-    hole, holes = made("hole.fit", with_holes(whole, [9000])), made("holes.fit", with_holes(whole, range(3000, 20000, 2500)))
+    hole, holes = made("hole.fit", with_holes(whole, [9000])), made("holes.fit", with_holes(whole, (3000, 9000, 10500, 12000, 13500, 16000, 19000, 20500)))
+    large = made("large.fit", whole[:5000] + bytes(4000) + whole[9000:15000] + bytes(3000) + whole[18000:])
+    two = made("two.fit", with_holes(whole[:8000] + bytes(4000) + whole[12000:], [20000]))
     bare = made("bare.fit", whole[14:])
     torn = made("torn.fit", bytes(14) + whole[14:-400])
     cut = made("cut.fit", by(made("short.fit", whole[:len(whole) // 2]))[0])
+    parts = [(made("most.fit", whole[:len(whole) * 3 // 5]), MOSTLY), (made("part.fit", whole[:len(whole) * 2 // 5]), PARTLY)]
     take = {"download": "#save"}
     for window in WINDOWS:
-        def visit(name, file, names, *wanted):
-            steps = [{"files": [file]}, *presses(*names), *([take] if wanted[2] else [])]
-            browser.visit("%s, %s" % (name, window), steps, judged(*wanted), **WINDOWS[window])
+        def visit(name, file, *wanted, steps=()):
+            taken = [take] if wanted[3] else []
+            browser.visit("%s, %s" % (name, window), [{"files": [file]}, *steps, *taken], judged(*wanted, bool(steps)), **WINDOWS[window])
 
+        little = "A few seconds of it are missing at most."
         kept, printed = by(hole, "--skip")
-        visit("a hole", hole, [], READABLE, [*said_by(printed), MAY_BE_WRONG], kept, [])
+        visit("a hole", hole, RESCUED, [little, MAY_BE_WRONG], said_by(printed), kept)
         kept, printed = by(holes, "--skip")
-        visit("many holes", holes, [], READABLE, [*said_by(printed), MAY_BE_WRONG], kept, [])
+        visit("many holes", holes, RESCUED, ["A few seconds of it are missing in %d places." % printed.count("left out"), MAY_BE_WRONG], said_by(printed), kept)
+        kept, printed = by(two, "--skip")
+        visit("a large hole and a small one", two, MOSTLY, ["; a little in %d more places." % (printed.count("left out") - 1)], said_by(printed), kept)
+        kept, printed = by(large, "--skip")
+        gaps = ["%s to %s, %s (" % (clock_of(a), clock_of(b), length_of(b - a)) for a, b in missing_by(whole, kept)]
+        visit("two large holes", large, MOSTLY, [*gaps, MAY_BE_WRONG], said_by(printed), kept)
+        yield "two large holes: what is missing", differs(len(gaps), 2)
         kept, printed = by(bare, "--skip")
-        visit("no header", bare, [], READABLE, ["The file begins with no FIT header.", *said_by(printed)], kept, [])
-        kept, printed = by(torn, "--skip")
-        visit("a damaged header and no end", torn, [], READABLE, said_by(printed), kept, [ADD])
+        visit("no header", bare, RESCUED, ["The file is damaged, but all of it could be read."], ["begins with no FIT header.", *said_by(printed)],
+              kept)
         kept, printed = by(torn, "--skip", "--finish")
-        heard = heard_by(printed)
-        visit("that with laps and totals", torn, [ADD], READABLE, [*said_by(printed), heard], kept, [])
-        visit("a summary is missing", cut, [], UNFINISHED, ["laps and totals can be added"], None, [ADD])
+        visit("a damaged header and no end", torn, RESCUED, [COMPLETED], [*said_by(printed), heard_by(printed)], kept)
+        kept, printed = by(torn, "--skip")
+        visit("that without laps and totals", torn, RESCUED, ["The file is damaged, but all of it could be read."], said_by(printed), kept, steps=[{"click": "#rarely button"}])
         kept, printed = by(cut, "--finish")
-        heard = heard_by(printed)
-        visit("a summary is added", cut, [ADD], "Laps and totals are added", [heard], kept, [])
+        visit("a summary is added", cut, RESCUED, [COMPLETED], [heard_by(printed)], kept)
+        for file, heading in parts:
+            kept, printed = by(file, "--finish")
+            goes = "It goes to %s." % clock_of(rows(kept)[-1]["timestamp"])
+            visit(file.name, file, heading, ["The file was cut off. " + goes], [], kept)
     empty = by(recorded(fitrec, folder / "empty", [RIDE[0], "commit"]) / NAMES[0])[0]
-    browser.visit("no sample for a summary", [{"files": [made("unheard.fit", empty)]}, *presses(ADD), take],
-                  judged(READABLE, ["no sample of the file has a time that fits"], empty, []))
+    browser.visit("no sample for a summary", [{"files": [made("unheard.fit", empty)]}],
+                  judged("Nothing was recorded", ["had not recorded anything yet"], ["No record has a time that fits"], None))
     browser.visit("no ride at all", [{"files": [made("picture.fit", b"\x89PNG\r\n\x1a\n" + bytes(range(256)) * 40)]}],
-                  judged(NOTHING, ["is not a FIT file", "no message of it is left"], None, []))
+                  judged(NOTHING, ["is not a FIT file", "nothing is left of it that can be read"], [], None))
     yield from browser.outcomes()
 
 
-def of_no_messages(fitrec, folder, shots=None):
+def of_no_messages(fitrec, folder, browser):
     """Zeros and FF in a finished ride and behind a recording, whose bytes can be read as messages: no sample is shown that nobody recorded."""
-    browser, where = Browser(folder, shots), recorded(fitrec, folder / "tour", tour(900))
+    where = recorded(fitrec, folder / "tour", tour(900))
     run(fitrec, "save", where, folder / "whole.fit")
     whole, recording = (folder / "whole.fit").read_bytes(), (where / NAMES[0]).read_bytes()
     real = rows(whole)
@@ -115,8 +142,9 @@ def of_no_messages(fitrec, folder, shots=None):
     def judged(size, kept, printed):
         def judge(shown, made):
             last, content = shown[-1], bytes_of(pathlib.Path(made[-1]))
-            missing = [it for it in said_by(printed) if it not in last["reason"]]
-            yield "what it says", unless((last["heading"], missing) == (READABLE, []), last["reason"], said_by(printed))
+            absent = [it for it in said_by(printed) if it not in last["details"]]
+            is_right = last["heading"] in (RESCUED, MOSTLY) and not absent
+            yield "what it says", unless(is_right, (last["heading"], last["details"]), said_by(printed))
             yield "no other word", unless("made up" not in last["reason"], last["reason"], "nothing on what was made up")
             yield "the file", differs(content, kept)
             foreign, lost = [it for it in rows(content) if it not in real], len(real) - len(rows(content))
@@ -126,7 +154,7 @@ def of_no_messages(fitrec, folder, shots=None):
             metres = int(last["numbers"]["Ascent"].replace(",", "")[:-2])
             yield "the ascent", unless(metres <= ascent_of(real) + 1, metres, "at most %d" % ascent_of(real))
             for name, caption in last["captions"].items():
-                numbers = [float(it.replace(",", "")) for it in re.findall(r"-?[\d,.]*\d", caption)]
+                numbers = [float(it.replace(",", "")) for it in re.findall(r"-?[\d,.]*\d", caption.partition(" · the device")[0])]
                 values = [value for _, value in series_of(real, name)]
                 is_in = min(values) - 1 <= numbers[0] and numbers[-1] <= max(values) + 1
                 yield name + ": the lowest and the highest", unless(is_in, caption, (min(values), max(values)))
@@ -140,15 +168,15 @@ def of_no_messages(fitrec, folder, shots=None):
     for (name, content, size), window in itertools.product(cases, ("wide", "narrow and dark")):
         file, kept = folder / (name.replace(" ", "-") + ".fit"), folder / "kept.fit"
         file.write_bytes(content)
-        printed = run(fitrec, "salvage", "--skip", "--plain", file, kept)[1]
+        printed = run(fitrec, "salvage", "--skip", *(["--finish"] if "recording" in name else []), "--plain", file, kept)[1]
         browser.visit("%s, %s" % (name, window), [{"files": [file]}, {"download": "#save"}], judged(size, kept.read_bytes(), printed),
                       **WINDOWS[window])
     yield from browser.outcomes()
 
 
-def of_chains(fitrec, folder, shots=None):
+def of_chains(fitrec, folder, browser):
     """Files that are chained in one are rides of their own, alone and among others."""
-    browser, files, kept = Browser(folder, shots), [], folder / "split"
+    files, kept = [], folder / "split"
     for name, lines in (("a", tour(600)), ("b", RIDE)):
         run(fitrec, "save", recorded(fitrec, folder / name, lines), folder / (name + ".fit"))
         files.append((folder / (name + ".fit")).read_bytes())
@@ -157,20 +185,20 @@ def of_chains(fitrec, folder, shots=None):
     kept.mkdir()
     run(fitrec, "split", chain, kept)
     end = folder / "end.fit"
-    run(fitrec, "salvage", "--plain", kept / "3.fit", end)
+    run(fitrec, "salvage", "--finish", "--plain", kept / "3.fit", end)
     wanted = {"2024-11-08-ride.fit": (kept / "1.fit").read_bytes(), "2021-09-08-ride.fit": (kept / "2.fit").read_bytes(),
               "2021-09-08-ride-2.fit": end.read_bytes()}
-    states = [("chain.fit (%d of 3)" % at, it) for at, it in enumerate(("The file is whole", "The file is whole", READABLE), 1)]
+    states = [("chain.fit (%d of 3)" % at, it) for at, it in enumerate((FINE, FINE, PARTLY), 1)]
 
     def of_one(shown, made):
-        yield "the list", differs(shown[0]["listHeading"], "3 rides, 3 of them saved")
+        yield "the list", differs(shown[0]["listHeading"], "3 activities: 1 rescued and 2 fine")
         yield "its rides", differs([(it[0], it[4]) for it in shown[0]["list"]], states)
         with zipfile.ZipFile(made[1]) as them:
             yield "all in one file", differs({it: them.read(it) for it in them.namelist()}, wanted)
         last = shown[-1]
         yield "one of them", differs((last["heading"], last["download"], last["numbers"]["Samples"]),
-                                     ("The file is whole", "2021-09-08-ride.fit", f"{len(rows(files[1])):,}"))
-        yield "why", unless("chained with others" in last["reason"], last["reason"], "chained with others")
+                                     (FINE, "2021-09-08-ride.fit", f"{len(rows(files[1])):,}"))
+        yield "why", unless("joined with others" in last["reason"], last["reason"], "joined with others")
         yield "its file", differs(bytes_of(pathlib.Path(made[-1])), (kept / "2.fit").read_bytes())
 
     for window in WINDOWS:
@@ -179,7 +207,7 @@ def of_chains(fitrec, folder, shots=None):
     shutil.copy(folder / "a.fit", folder / "other.fit")
 
     def of_others(shown, made):
-        yield "its rides", differs([(it[0], it[4]) for it in shown[0]["list"]], [*states, ("other.fit", "The file is whole")])
+        yield "its rides", differs([(it[0], it[4]) for it in shown[0]["list"]], [*states, ("other.fit", FINE)])
 
     browser.visit("a chain and another file", [{"files": [chain, folder / "other.fit"]}], of_others)
     yield from browser.outcomes()

@@ -10,12 +10,12 @@ from tools.checks import differs, unless
 from tools.pages import (RIDE, START, ascent_of, average_of, both, columns_of, drawn_of, facts_of, pauses_of, recorded, rounded, rows,
                          series_of, tour, weighted)
 from tools.program import bytes_of, run
-from tools.visits import SAVED, WINDOWS, Browser
+from tools.visits import FINE, RESCUED, WINDOWS
 
 
-def of_numbers(fitrec, folder, shots=None):
+def of_numbers(fitrec, folder, browser):
     """Numbers and lines of every series, from all samples."""
-    browser, places = Browser(folder, shots), {"a tour": tour(), "a tour over 180 degrees": tour(1500, longitude=179.995)}
+    places = {"a tour": tour(), "a tour over 180 degrees": tour(1500, longitude=179.995)}
     outline = {"evaluate": "document.querySelector('.map .casing').getAttribute('d')"}
 
     def judged(data, breaks):
@@ -53,9 +53,9 @@ def of_numbers(fitrec, folder, shots=None):
     yield from browser.outcomes()
 
 
-def of_looking(fitrec, folder, shots=None):
+def of_looking(fitrec, folder, browser):
     """What people look for: laps, the values at a time, colours, the summary of a salvage, and several rides at once."""
-    browser, where = Browser(folder, shots), recorded(fitrec, folder / "tour", tour())
+    where = recorded(fitrec, folder / "tour", tour())
     run(fitrec, "save", where, folder / "tour.fit")
     data = (folder / "tour.fit").read_bytes()
     found, laps, pauses = rows(data), rows(data, 19), pauses_of(data)
@@ -66,20 +66,24 @@ def of_looking(fitrec, folder, shots=None):
         begin, end = found[0]["timestamp"], found[-1]["timestamp"]
         return min(found, key=lambda it: abs(it["timestamp"] - begin - share * (end - begin)))
 
-    def values_of(sample, zone):
+    def values_of(sample, zone, named=True):
+        """The values of a sample. A narrow window has room for the values alone."""
         hour, rest = divmod(sample["timestamp"] - START + 8 * 3600, 3600)
         clock = "%d:%02d:%02d AM %s" % (hour + (zone == "GMT+1"), *divmod(rest, 60), zone)
-        return [clock, rounded(sample["distance"] / 1e5, 2) + " km", "Speed %s km/h" % rounded(sample["speed"] * 0.0036, 1),
-                "Heart rate %d bpm" % sample["heart_rate"], "Altitude %s m" % rounded(sample["altitude"] / 5 - 500, 0),
-                "Power %s W" % rounded(sample["power"], 0), "Cadence %d rpm" % sample["cadence"],
-                "Temperature %d °C" % sample["temperature"]]
+        values = {"Speed": rounded(sample["speed"] * 0.0036, 1) + " km/h", "Heart rate": "%d bpm" % sample["heart_rate"],
+                  "Altitude": rounded(sample["altitude"] / 5 - 500, 0) + " m", "Power": rounded(sample["power"], 0) + " W",
+                  "Cadence": "%d rpm" % sample["cadence"], "Temperature": "%d °C" % sample["temperature"]}
+        shown = ["%s %s" % it if named else it[1] for it in values.items()]
+        return [clock, rounded(sample["distance"] / 1e5, 2) + " km", *shown]
 
-    def near(sample, values, zone):
+    def near(sample, values, zone, named):
         """Whether values are those of a sample that is at most two columns of a window from it."""
         k, room = found.index(sample), 12
-        return values in [values_of(it, zone) for it in found[max(0, k - room):k + room]]
+        return values in [values_of(it, zone, named) for it in found[max(0, k - room):k + room]]
 
     def judged(zone, touch):
+        named = not touch
+
         def judge(shown, made):
             first, pointed, moved, begun, _, slid = shown[:6]
             count, spoken, begins, colours, marks = made[6:11]
@@ -89,9 +93,9 @@ def of_looking(fitrec, folder, shots=None):
             yield "a hint", differs(first["values"][0].split(" ")[0], "Tap" if touch else "Point")
             for what, step, sample in (("the values under the pointer", pointed, at(0.6)), ("in another picture", moved, at(0.1)),
                                        ("at the start of the track", begun, found[0])):
-                yield what, unless(near(sample, step["values"], zone), step["values"], values_of(sample, zone))
+                yield what, unless(near(sample, step["values"], zone, named), step["values"], values_of(sample, zone, named))
             yield "the cursors", differs(count, [len(first["curves"]), False])
-            yield "by keys", differs(slid["values"], values_of(found[-1], zone))
+            yield "by keys", differs(slid["values"], values_of(found[-1], zone, named))
             yield "for a reader", differs(spoken, ", ".join(values_of(found[-1], zone)))
             wanted = [["Lap", "Begins", "Without pauses", "Distance", "Average speed", "Average heart rate", "Highest heart rate",
                        "Average power"]]
@@ -152,10 +156,11 @@ def of_looking(fitrec, folder, shots=None):
                    "Distance": rounded(kept[-1]["distance"] / 1e5, 2) + " km", "Samples": f"{len(kept):,}", "Laps": "3",
                    "Ascent": rounded(ascent_of(kept), 0) + " m"}
         yield "numbers", differs({it: shown[0]["numbers"].get(it) for it in numbers}, numbers)
-        yield "laps", differs([it[0] for it in shown[0]["laps"]], ["Lap", "1", "2", "3*"])
+        yield "laps", differs([it[0] for it in shown[0]["laps"]], ["Lap", "1", "2", "3"])
+        yield "a lap that was not ended", differs([it[0] for it in shown[1]["laps"]], ["Lap", "1", "2", "3*"])
 
     for window in WINDOWS:
-        browser.visit("a salvage, %s" % window, [{"files": [folder / "cut.fit"]}], of_cut, **WINDOWS[window])
+        browser.visit("a salvage, %s" % window, [{"files": [folder / "cut.fit"]}, {"click": "#rarely button"}], of_cut, **WINDOWS[window])
 
     # Several rides in the order of folders and names, two of them whole, and a note.
     rides = folder / "rides"
@@ -168,16 +173,16 @@ def of_looking(fitrec, folder, shots=None):
     (rides / "notes.txt").write_text("notes")
 
     def of_several(shown, made):
-        yield "the list", differs(shown[0]["listHeading"], "5 rides, 3 of them saved")
+        yield "the list", differs(shown[0]["listHeading"], "5 activities: 3 rescued and 2 fine")
         yield "its rides", differs([(it[0], it[4]) for it in shown[0]["list"]], [
-            *(("rides/whole%d.fit" % it, "The file is whole") for it in (2, 10)),
-            *(("rides/%s/activity.fit" % it, SAVED) for it in "abc")])
+            *(("rides/whole%d.fit" % it, FINE) for it in (2, 10)),
+            *(("rides/%s/activity.fit" % it, RESCUED) for it in "abc")])
         with zipfile.ZipFile(made[1]) as them:
             wanted = {name: (folder / it).read_bytes() for name, it in (
                 ("2024-11-08-ride.fit", "a.fit"), ("2021-09-08-ride.fit", "b.fit"), ("2024-11-08-ride-2.fit", "c.fit"))}
             yield "all in one file", differs({it: them.read(it) for it in them.namelist()}, wanted)
         last = shown[2]
-        yield "one of them", differs((last["heading"], last["download"]), (SAVED, "2021-09-08-ride.fit"))
+        yield "one of them", differs((last["heading"], last["download"]), (RESCUED, "2021-09-08-ride.fit"))
         yield "which of them", unless(last["reason"].startswith("rides/b/activity.fit"), last["reason"], "rides/b/activity.fit")
 
     for window in WINDOWS:

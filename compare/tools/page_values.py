@@ -3,7 +3,7 @@
 from tools.checks import differs
 from tools.fit_files import framed
 from tools.pages import START, average_of, rounded, weighted
-from tools.visits import WINDOWS, Browser
+from tools.visits import WIDTHS, WINDOWS
 
 UINT8, UINT16, UINT32, ENUM = 0x02, 0x84, 0x86, 0x00
 SIZES = {ENUM: 1, UINT8: 1, UINT16: 2, UINT32: 4}
@@ -11,6 +11,8 @@ TIME = 253, UINT32
 # The fields of a sample, and of what closes a ride.
 HEART, POWER, SPEED, ENHANCED_SPEED, ALTITUDE, DISTANCE = (3, UINT8), (7, UINT16), (6, UINT16), (73, UINT32), (2, UINT16), (5, UINT32)
 BEGIN, ELAPSED, TIMER, LENGTH, MOST_HEART, MOST_POWER = (2, UINT32), (7, UINT32), (8, UINT32), (9, UINT32), (17, UINT8), (21, UINT16)
+
+CADENCE, MEAN_CADENCE, MEAN_POWER, ASCENT = (4, UINT8), (18, UINT8), (20, UINT16), (22, UINT16)
 
 
 def message(number, fields):
@@ -46,9 +48,8 @@ def over_time(pairs):
     return average_of(weighted(pairs, []))
 
 
-def of_values(fitrec, folder, shots=None):
+def of_values(fitrec, folder, browser):
     """Sprints are no faults, what cannot be is one, averages are over the time, and several sessions are added up."""
-    browser = Browser(folder, shots)
 
     def visit(name, data, captions, notes=(), numbers=None, laps=None):
         def judge(shown, made):
@@ -111,6 +112,21 @@ def of_values(fitrec, folder, shots=None):
     one = "1 value cannot be right, and is left out."
     visit("values that cannot be", ride(samples, [(0, 599, None)]), captions, [one, "2 values cannot be right, and are left out.", one, one])
 
+    # Seconds in which nobody pedals count once, and once they do not.
+    samples = [(at, {CADENCE: 90 if at % 300 < 200 else 0, POWER: 200}) for at in range(1200)]
+    turns = series(samples, CADENCE)
+    pedalled = sum(value * seconds for _, value, seconds in weighted(turns, [])) / sum(seconds for _, value, seconds in weighted(turns, []) if value)
+    own = {MEAN_CADENCE: 75, MEAN_POWER: 200}
+    line_of = "lowest 0 · average %s · highest 90 rpm · average without coasting %s rpm"
+    known = line_of % (rounded(over_time(turns), 0), rounded(pedalled, 0))
+    visit("cadence with coasting", ride(samples, [(0, 1199, None)]), {"Cadence": known})
+    # What the device says of a ride is shown where it is something else.
+    visit("numbers of the device", ride(samples, [(0, 1199, None, own)]),
+          {"Cadence": known + " · the device says 75 rpm", "Power": line([200], 200, "W")})
+    samples = [(at, {HEART: 120, DISTANCE: 800 * at, ALTITUDE: 2700 + 5 * (at // 10)}) for at in range(600)]
+    visit("totals of the device", ride(samples, [(0, 599, 900_000, {ASCENT: 70})]), {},
+          numbers={"Distance": "9.00 km its samples say 4.79 km", "Ascent": "59 m the device says 70 m", "Duration": "0:09:59"})
+
     # A distance that a fault wrote, in a ride without a session.
     samples = [(at, {HEART: 120, DISTANCE: 10**8 if at == 300 else 800 * at}) for at in range(600)]
     visit("a distance that cannot be", ride(samples), {}, numbers={"Distance": "4.79 km"})
@@ -123,4 +139,23 @@ def of_values(fitrec, folder, shots=None):
     visit("two sessions", ride(samples, parts, parts), {"Speed": line([28.8, 10.8], average, "km/h", 1)},
           numbers={"Duration": "0:19:59", "Without pauses": "0:19:59", "Distance": "6.60 km", "Sessions": "2", "Samples": "1,200",
                    "Average speed": rounded(average, 1) + " km/h"})
+
+    # Samples none of which has a time.
+    beats = [100 + at % 40 for at in range(300)]
+    (folder / "untimed.fit").write_bytes(framed(message(0, {(0, ENUM): 4, (4, UINT32): START})
+                                                + b"".join(message(20, {HEART: beat, POWER: 200}) for beat in beats)))
+
+    def of_untimed(shown, made):
+        first, read = shown[0], shown[1]
+        yield "it says so", differs("Nothing in this file has a time" in first["reason"], True)
+        yield "captions", differs(first["captions"], {"Heart rate": line(beats, sum(beats) / len(beats), "bpm"), "Power": line([200], 200, "W")})
+        yield "its numbers", differs(first["numbers"], {"Samples": "300"})
+        yield "a sample by its number", differs(read["values"][0], "Sample 300")
+        yield "the axis counts", differs({*made[2]} - {"50", "150", "250"}, {"100", "200"})
+
+    axis = {"evaluate": "[...document.querySelector('.times').children].map(it => it.innerText)"}
+    for width, window in WIDTHS.items():
+        point = {"touchAt" if window.get("touch") else "point": [".plot", 100]}
+        steps = [{"files": [folder / "untimed.fit"]}, point, axis]
+        browser.visit("samples without times at %s" % width, steps, of_untimed, **window)
     yield from browser.outcomes()

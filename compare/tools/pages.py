@@ -1,12 +1,13 @@
 """Rides for the page, and what the second reader says of them."""
 
 import itertools
+import json
 import math
 import pathlib
 import re
 
 from tools import reader
-from tools.program import NAMES, run
+from tools.program import NAMES, ROOT, run
 
 # 2024-11-08 08:00 UTC.
 START = 1100000000 - 1100000000 % 86400 + 8 * 3600
@@ -26,6 +27,12 @@ def recorded(fitrec, folder, lines, *words):
     script.write_text("\n".join(lines))
     run(fitrec, "replay", *words, script, folder)
     return folder
+
+
+def of_module(name, expression):
+    """What an expression over a module of the page, `it`, is under Node."""
+    script = "import * as it from 'file://%s'; process.stdout.write(JSON.stringify(%s))" % (ROOT / "web" / name, expression)
+    return json.loads(run("node", "--input-type=module", "-e", script)[1])
 
 
 def both(folder):

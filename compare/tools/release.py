@@ -5,12 +5,16 @@ import hashlib
 import pathlib
 import shutil
 import subprocess
+import sys
 
 from tools.checks import Skipped, differs
 from tools.program import ROOT, bytes_of
 
+sys.path.insert(0, str(ROOT))
+import kept
+
 RELEASE = ROOT / "release"
-OBJECTS = ["fitrec-cortex-m0plus.o", "fitrec-cortex-m4.o", "fitrec-rv32imac.o"]
+OBJECTS = ["fitrec-cortex-m0plus.o", "fitrec-cortex-m4.o", "fitrec-rv32imac.o", "libfit_device-aarch64.a"]
 
 
 def stated(release):
@@ -36,7 +40,8 @@ def is_of_these_sources(release):
 def why_not(name):
     """Why a file that is made here may have other bytes than the released one, or None."""
     of = stated(RELEASE)
-    for word, here in (("kit", ("rt", "version")), *([("wasm-opt", ("wasm-opt", "--version"))] if name == "fitrec.html" else [])):
+    tools = {"fitrec.html": [(it, (it, "--version")) for it in ("wasm-opt", "esbuild")], ".whl": [("pip", kept.WHEEL_TOOLS)]}
+    for word, here in (("kit", ("rt", "version")), *next((tools[it] for it in tools if name.endswith(it)), [])):
         found = said_by(*here).removeprefix(word + " ") if shutil.which(here[0]) else "none"
         if found != of.get(word):
             return "release/ is by %s %s, and here is %s" % (word, of.get(word), found)

@@ -9,36 +9,45 @@ from tools.program import ROOT, run
 BROWSER, PAGE = ROOT / "compare/browser.mjs", ROOT / "web/out/fitrec.html"
 WINDOWS = {"wide": {"width": 1280}, "narrow": {"width": 390, "touch": True},
            "wide and dark": {"width": 1280, "dark": True}, "narrow and dark": {"width": 390, "touch": True, "dark": True}}
-ADD = "Add laps and totals"
-NOTHING, READABLE, SAVED = "Nothing could be saved", "The readable part is saved", "The ride is saved"
+# What is laid out has to fit the narrowest phone too.
+WIDTHS = {"1280": {"width": 1280}, "390": {"width": 390, "touch": True}, "320": {"width": 320, "touch": True}}
+RESCUED, MOSTLY, PARTLY = "Your ride is rescued", "Most of your ride is rescued", "Part of your ride is rescued"
+FINE, NOTHING = "This file is fine", "Nothing could be rescued"
+COMPLETED = "Its laps and totals were missing."
 
 
-def visits(folder, asked, limit=900):
-    """What the browser answers to some visits; what it prints on standard error is an error here."""
-    status, out, err = run(BROWSER, PAGE, folder, input=json.dumps(asked, default=str), timeout=limit)
+def visits(name, folder, asked, limit=900):
+    """What a browser answers to some visits; what it prints on standard error is an error here."""
+    status, out, err = run(BROWSER, name, PAGE, folder, input=json.dumps(asked, default=str), timeout=limit)
     if (status, err) != (0, ""):
         raise RuntimeError("the browser ended with %s: %s" % (status, err[-2000:]))
     return json.loads(out)
 
 
 class Browser:
-    """Visits that are collected, and made all at once in one browser."""
+    """Visits that are collected, and made all at once in a browser of this name. What it keeps lies in the folder."""
 
-    def __init__(self, folder, shots):
-        self.folder, self.shots, self.asked, self.judges = folder, shots, [], []
+    def __init__(self, name, folder, shots=None):
+        self.name, self.folder, self.shots, self.asked, self.judges = name, folder, shots, [], []
 
     def visit(self, name, steps, judge, **how):
-        """A visit, and what judges its answer: it yields names and differences."""
+        """A visit, and what judges its answer: it yields names and differences. One that a browser has no way to is left out."""
+        is_wide = how.keys() <= {"width", "unread"} and how.get("width", 1280) == 1280
+        if self.name == "webkit" and (not is_wide or any("drop" in it for it in steps)):
+            return
         shot = [{"screenshot": self.shots / (re.sub(r"\W+", "-", name) + ".png")}] if self.shots else []
         self.asked.append(how | {"steps": [*steps, *shot]})
         self.judges.append((name, judge, how.get("address", "file://%s" % PAGE), len(steps)))
 
     def outcomes(self):
-        for (name, judge, address, count), answer in zip(self.judges, visits(self.folder, self.asked)):
+        """The visits that were collected until now."""
+        asked, judges, self.asked, self.judges = self.asked, self.judges, [], []
+        for (name, judge, address, count), answer in zip(judges, visits(self.name, self.folder, asked)):
             yield name + ": nothing is logged", differs(answer["logged"], [])
-            # A page that is served asks for its own folder alone.
+            # A page that is served asks for its own folder alone. What has its content in it, such as a browser's own icon, is no request.
             own = address.rpartition("/")[0] + "/" if address.startswith("http") else address
-            yield name + ": no request", differs([it for it in answer["requests"] if it != "blob:" and not it.startswith(own)], [])
+            requests = [it for it in answer["requests"] if it not in ("blob:", "data:") and not it.startswith(own)]
+            yield name + ": no request", differs(requests, [])
             if answer["logged"]:
                 continue
             for it in answer["shown"]:

@@ -1,4 +1,4 @@
-/* The start of compare/device.c on an emulated Cortex-M: it records the script in its folder. */
+/* The start of a program on an emulated Cortex-M, with the words that it is compiled with. */
 
 #include <stdint.h>
 #include <stdlib.h>
@@ -12,14 +12,21 @@ void _init(void) {}
 void _fini(void) {}
 
 void reset(void) {
-    static char *words[] = {"device", "cut", "script.txt", ".", "-1", "1", "0", NULL};
+#ifdef __ARM_FP
+    *(volatile uint32_t *)0xE000ED88 |= 0xF00000; /* the floating point unit is on */
+#endif
+    static char *words[] = {"device",
+#ifdef WORDS
+                            WORDS,
+#endif
+                            NULL};
     for (uint32_t *at = &_sbss; at < &_ebss; at++)
         *at = 0;
     for (uint32_t *at = &_sdata, *from = &_sidata; at < &_edata;)
         *at++ = *from++;
     initialise_monitor_handles();
     __libc_init_array();
-    exit(main(7, words));
+    exit(main(sizeof words / sizeof *words - 1, words));
 }
 
 void hang(void) {

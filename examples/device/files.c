@@ -17,9 +17,40 @@ static int open_again(const char *path, int flags) {
     return file;
 }
 
-static int sync_again(int file) {
+static int32_t size_of(void *file) {
+    struct stat found;
+    return fstat(*(int *)file, &found) || found.st_size > INT32_MAX ? -1 : (int32_t)found.st_size;
+}
+
+static int32_t read_bytes(void *file, uint32_t at, void *to, uint32_t count) {
+    uint32_t done = 0;
+    for (ssize_t more = 1; more > 0 && done < count; done += (uint32_t)more) {
+        AGAIN(more = pread(*(int *)file, (char *)to + done, count - done, at + done));
+        if (more < 0)
+            return -1;
+    }
+    return (int32_t)done;
+}
+
+static int32_t write_bytes(void *file, uint32_t at, const void *from, uint32_t count) {
+    uint32_t done = 0;
+    for (ssize_t more = 1; more > 0 && done < count; done += (uint32_t)more) {
+        AGAIN(more = pwrite(*(int *)file, (const char *)from + done, count - done, at + done));
+        if (more < 0)
+            return -1;
+    }
+    return (int32_t)done;
+}
+
+static int cut(void *file, uint32_t size) {
     int answer;
-    AGAIN(answer = fsync(file));
+    AGAIN(answer = ftruncate(*(int *)file, size));
+    return answer;
+}
+
+static int sync_file(void *file) {
+    int answer;
+    AGAIN(answer = fsync(*(int *)file));
     return answer;
 }
 
@@ -33,64 +64,15 @@ static int open_one(const char *folder, const char *name) {
     return answer ? -1 : file;
 }
 
-int open_files(struct files *files, const char *folder) {
-    files->of[FITREC_DATA_FILE] = open_one(folder, "activity.fit");
-    files->of[FITREC_JOURNAL_FILE] = open_one(folder, "activity.frj");
+int open_files(struct fitrec_device *device, const char *folder) {
+    static int files[2];
+    files[0] = open_one(folder, "activity.fit");
+    files[1] = open_one(folder, "activity.frj");
+    *device = (struct fitrec_device){size_of, read_bytes, write_bytes, cut, sync_file, {&files[0], &files[1]}, 0};
     int opened = open_again(folder, O_RDONLY);
     /* The names are kept too. */
-    int kept = opened >= 0 && sync_again(opened) == 0;
+    int kept = opened >= 0 && sync_file(&opened) == 0;
     if (opened >= 0)
         close(opened);
-    return kept && files->of[0] >= 0 && files->of[1] >= 0 ? 0 : -1;
-}
-
-int64_t file_size(const struct files *files, int file) {
-    struct stat found;
-    return fstat(files->of[file], &found) ? -1 : (int64_t)found.st_size;
-}
-
-static int write_all(int file, const uint8_t *bytes, size_t count, off_t at) {
-    while (count > 0) {
-        ssize_t done;
-        AGAIN(done = pwrite(file, bytes, count, at));
-        if (done <= 0)
-            return -1;
-        bytes += done, at += done, count -= (size_t)done;
-    }
-    return 0;
-}
-
-static int carry_out_one(const struct files *files, const struct fitrec_plan *plan, const struct fitrec_call *call) {
-    int answer, file = files->of[call->file];
-    switch (call->kind) {
-    case FITREC_WRITE:
-        return write_all(file, plan->bytes + call->start, call->count, (off_t)call->at);
-    case FITREC_CUT:
-        AGAIN(answer = ftruncate(file, (off_t)call->at));
-        return answer;
-    default:
-        return sync_again(file);
-    }
-}
-
-int carry_out(const struct files *files, const struct fitrec_plan *plan) {
-    for (uint32_t k = 0; k < plan->count; k++)
-        if (carry_out_one(files, plan, &plan->calls[k]))
-            return -1;
-    return 0;
-}
-
-int read_window(const struct files *files, struct fitrec_recovery *recovery) {
-    for (recovery->filled = 0; recovery->filled < recovery->count;) {
-        size_t more = (size_t)(recovery->count - recovery->filled);
-        off_t at = (off_t)(recovery->at + recovery->filled);
-        ssize_t done;
-        AGAIN(done = pread(files->of[recovery->file], recovery->window + recovery->filled, more, at));
-        if (done < 0)
-            return -1;
-        if (done == 0)
-            break;
-        recovery->filled += (uint16_t)done;
-    }
-    return 0;
+    return kept && files[0] >= 0 && files[1] >= 0 ? 0 : -1;
 }

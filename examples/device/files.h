@@ -1,25 +1,13 @@
-/* The two files of a recording in a folder, and the calls that a plan makes on them. */
+/* The two files of a recording as the five functions of a device. One of these sources has them: files.c on a system with files, fatfs.c,
+   littlefs.c, and flash.c over a raw area of flash. */
 
 #ifndef FILES_H
 #define FILES_H
 
-#include "fitrec.h"
+#include "fitrec_device.h"
 
-struct files {
-    int of[2]; /* the data file and the journal */
-};
-
-/* Opens and locks both files, and makes those that are missing. Answers 0, or -1 where one cannot be opened or another program has it
-   locked. */
-int open_files(struct files *files, const char *folder);
-
-/* The length of one of the two files, or -1. */
-int64_t file_size(const struct files *files, int file);
-
-/* Carries out a plan. Answers 0, or -1 at the first call that fails. */
-int carry_out(const struct files *files, const struct fitrec_plan *plan);
-
-/* Reads the window that a recovery asks for. Answers 0, or -1 where it cannot be read. */
-int read_window(const struct files *files, struct fitrec_recovery *recovery);
+/* Opens both files of this folder, and makes those that are missing. Answers 0, or -1 where one cannot be opened, or on a system with files
+   another program has it locked. Call it at each start, once the file system is mounted; flash.c needs no folder. */
+int open_files(struct fitrec_device *device, const char *folder);
 
 #endif

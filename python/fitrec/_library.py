@@ -6,7 +6,7 @@ import ctypes
 import ctypes.util
 import os
 import pathlib
-from typing import List, NamedTuple, Tuple
+from typing import Any, List, NamedTuple, Optional, Tuple
 
 import numpy as np
 
@@ -17,22 +17,30 @@ MOST_COLUMNS = 128
 CODES = 256 + 256 * 256
 
 _MEMORY, _NO_ROOM = 10, 20
-_FAULTS = {1: "Truncated", 2: "HeaderSize", 3: "Magic", 4: "Protocol", 5: "HeaderCrc", 6: "UndefinedLocal", 7: "SplitMessage",
-           8: "FileCrc", 9: "TrailingBytes"}
+# The kind of what exceeds the most bytes that the user allows.
+OVER_LIMIT = "OverLimit"
+# What the library refuses a file for, by its answer; of those from 10 on only a time that is too far has a place.
+FAULTS = {1: "Truncated", 2: "HeaderSize", 3: "Magic", 4: "Protocol", 5: "HeaderCrc", 6: "UndefinedLocal", 7: "SplitMessage",
+          8: "FileCrc", 9: "TrailingBytes", 11: "NoFileId", 12: "NotActivity", 13: "NoLap", 14: "NoSession", 15: "NoActivity",
+          20: OVER_LIMIT, 21: "TooLong", 22: "TooLarge", 26: "NoSample", 27: "NoTime",
+          28: "TimeTooFar"}
+# For how many messages a filler has room at first, and for how many it keeps it.
+_USUAL_ROWS, _MOST_KEPT_ROWS = 4096, 65536
 # What the library says of a value: the place of its message, where in that it begins, and its size, base type byte and byte order.
 _HEAD = np.dtype((np.uint32, 3))
 
 
 class FitError(ValueError):
-    """The bytes are no FIT file.
+    """The bytes are no FIT file, or one of another kind than is asked for, or more than are allowed.
 
-    kind is the fault, such as "HeaderSize", and place its offset in bytes. path is the name of the file, if it has one."""
+    kind is the fault, such as "HeaderSize", "NotActivity" or "OverLimit", and place its offset in bytes, None if it has none. path is the
+    name of the file, if it has one."""
 
-    def __init__(self, kind: str, place: int, path: str | None = None):
-        super().__init__(("%s: " % path if path is not None else "") + "%s at %d" % (kind, place))
+    def __init__(self, kind: str, place: Optional[int], path: Optional[str] = None):
+        super().__init__(("%s: " % path if path is not None else "") + kind + (" at %d" % place if place is not None else ""))
         self.kind, self.place, self.path = kind, place, path
 
-    def __reduce__(self):
+    def __reduce__(self) -> Tuple[type, Tuple[str, Optional[int], Optional[str]]]:
         return FitError, (self.kind, self.place, self.path)
 
 
@@ -62,32 +70,48 @@ def _found() -> str:
 
 
 _library = ctypes.CDLL(_found())
-_columns, _values = _library.fitrec_fields, _library.fitrec_values
+
+
+def call(name: str, *arguments: Any, answer: Any = ctypes.c_uint8) -> Any:
+    """A call of the library, whose arguments have these types."""
+    found = getattr(_library, name)
+    found.restype, found.argtypes = answer, list(arguments)
+    return found
+
+
 _BUFFER = [ctypes.c_void_p, ctypes.c_size_t]
-for _call, _numbers in (_columns, 2), (_values, 3):
-    _call.restype, _call.argtypes = ctypes.c_uint8, [
-        *_BUFFER, ctypes.c_uint16, *_BUFFER, ctypes.c_size_t, *_BUFFER, *_BUFFER, *[ctypes.c_void_p] * _numbers]
+_columns, _values = (call(name, *_BUFFER, ctypes.c_uint16, *_BUFFER, ctypes.c_size_t, *_BUFFER, *_BUFFER, *[ctypes.c_void_p] * numbers)
+                     for name, numbers in (("fitrec_fields", 2), ("fitrec_values", 3)))
 
 
-def _asked(call, numbers: int, data, message: int, fields: np.ndarray, kind, room: int, other: np.ndarray) -> np.ndarray:
-    """A row of this kind for each field, with an item for each message, of which there may be so many, or more. A NULL pointer is never
-    handed over: no array is empty."""
+def pointer_to(data: Any) -> Any:
+    """What a call is handed for these bytes. It is never NULL."""
+    return data if isinstance(data, bytes) else np.frombuffer(data if len(data) else bytes(1), np.uint8).ctypes.data_as(ctypes.c_void_p)
+
+
+def _asked(ask: Any, numbers: int, data: Any, message: int, fields: np.ndarray, kind, room: int, other: np.ndarray) -> np.ndarray:
+    """A row of this kind for each field, with an item for each message, of which there may be so many, or more. No array is empty, so
+    that none is NULL."""
     if not 0 <= message < 65536:
         raise ValueError("a message has a number below 65536")
-    content = np.frombuffer(data, np.uint8) if len(data) else np.zeros(1, np.uint8)
     counts, many = (ctypes.c_uint64 * numbers)(), len(fields)
     counts_at = range(ctypes.addressof(counts), ctypes.addressof(counts) + 8 * numbers, 8)
     while True:
         out = np.empty((max(many, 1), max(room, 1)), kind)  # pages that are not written take no memory
-        code = call(content.ctypes.data, len(data), message, fields.ctypes.data, many, room, out.ctypes.data, many * room,
+        code = ask(pointer_to(data), len(data), message, fields.ctypes.data, many, room, out.ctypes.data, many * room,
                     other.ctypes.data, other.size, *counts_at)
         if code == 0:
             return out[:many, :counts[0]]
-        if code == _MEMORY:
-            raise MemoryError("the library found no memory")
         if code != _NO_ROOM:
-            raise FitError(_FAULTS[code], counts[numbers - 1])
+            _refuse(code, counts[numbers - 1])
         room = counts[0]
+
+
+def _refuse(code: int, place: int) -> None:
+    if code == _MEMORY:
+        raise MemoryError("the library found no memory")
+    if code:
+        raise FitError(FAULTS[code], place)
 
 
 def fill(data: bytes | np.ndarray, message: int, fields: List[int]) -> Tuple[np.ndarray, np.ndarray]:
@@ -112,3 +136,46 @@ def find(data: bytes | np.ndarray, message: int, codes: List[int], room: int = 6
         sizes, step = kinds.T & 0xFFFF, 0
         starts = (np.cumsum(sizes, dtype=np.int64).reshape(sizes.shape) - sizes).T
     return Found(heads[:, :, 0], heads[:, :, 1], kinds, starts + step * np.arange(kinds.shape[1]) if step else starts, values, step)
+
+
+class Filler:
+    """Reads the same fields of file after file, as `fill` does, into room that is used again. `held` is what the messages of the last file
+    hold at each code."""
+
+    def __init__(self, message: int, fields: List[int], developer: bool):
+        self.message, self.many = message, len(fields)
+        self.held = np.empty(CODES if developer else 256, np.uint8)
+        self._numbers = np.array([*fields, 0], np.uint8)
+        self._counts = (ctypes.c_uint64 * 2)()
+        self._at = self._numbers.ctypes.data, self.held.ctypes.data, ctypes.addressof(self._counts)
+        self._make_room(_USUAL_ROWS)
+
+    def _make_room(self, rows: int) -> None:
+        self._out = np.empty((max(self.many, 1), max(rows, 1)), np.int64)
+        self._out_at = self._out.ctypes.data
+
+    def __call__(self, data: bytes, most_rows: Optional[int]) -> np.ndarray:
+        """A row for each field, which stays until the next call. More than so many values for each are refused."""
+        if self._out.shape[1] > _MOST_KEPT_ROWS:
+            self._make_room(_USUAL_ROWS)
+        rows = self.into(data, self._out_at, self._out.shape[1])
+        while rows is None:
+            if most_rows is not None and self._counts[0] > most_rows:
+                raise FitError(OVER_LIMIT, None)
+            self._make_room(self._counts[0])
+            rows = self.into(data, self._out_at, self._out.shape[1])
+        return self._out[:self.many, :rows]
+
+    def into(self, data: bytes, out: int, room: int) -> Optional[int]:
+        """Fills columns in the memory from this address on, which is that of so many values for each. Answers how many they have, None if
+        there is no room for all."""
+        numbers, held, counts = self._at
+        for at in range(0, max(self.many, 1), MOST_COLUMNS):
+            many = min(self.many - at, MOST_COLUMNS)
+            code = _columns(data, len(data), self.message, numbers + at, many, room, out + 8 * at * room, many * room,
+                            held, len(self.held), counts, counts + 8)
+            if code == _NO_ROOM:
+                return None
+            if code:
+                _refuse(code, self._counts[1])
+        return self._counts[0]

@@ -7,9 +7,10 @@ from typing import Dict, Iterable, List, NamedTuple, Optional, Set, Tuple, Union
 
 import numpy as np
 
-from ._library import MOST_COLUMNS, NO_VALUE, Found, fill, find
+from ._columns import ENUM, Columns, named, whole
+from ._library import MOST_COLUMNS, NO_VALUE, OVER_LIMIT, FitError, Found, fill, find
 from ._values import Key, Part, described_parts, descriptions, numbers, parts, raw_bytes, texts
-from .profile import USUAL, Field, numbered, of_name, of_number
+from .profile import USUAL, Field, enum_of, numbered, of_name, of_number
 
 # Times count from 1989-12-31T00:00:00Z. Below the first calendar time they count from when the device was switched on.
 _EPOCH, _FIRST_DATE = 631065600, 0x10000000
@@ -33,8 +34,8 @@ class Column(NamedTuple):
 class File:
     """The messages of one number in a file. The library reads it when columns are asked for, which raises FitError."""
 
-    def __init__(self, data, message: Union[int, str]):
-        self.data, self.rows = data, 0
+    def __init__(self, data, message: Union[int, str], most: Optional[int] = None):
+        self.data, self.rows, self.most = data, 0, most
         self.message, self.known = numbered(message)
         self._whole: Dict[int, np.ndarray] = {}
         self._found: Dict[int, Found] = {}
@@ -42,6 +43,10 @@ class File:
     def columns(self) -> List[Column]:
         """The usual columns, and those of the other fields that the messages have."""
         usual = USUAL.get(self.message, [_TIMESTAMP])
+        if self.most is not None:
+            self._fill([])
+            own = set(usual).union(np.flatnonzero(self._held[:256]).tolist())
+            self._allow(len(own) + min(len(self._developer_codes(_SOME)), _MOST_DEVELOPER))
         self._fill(usual)
         present = [*usual, *(it for it in np.flatnonzero(self._held[:256]).tolist() if it not in usual)]
         self._fill(present)
@@ -53,9 +58,17 @@ class File:
         """The columns of the fields with these names or numbers, None for a name that neither the Profile nor the file has."""
         chosen = [(it, of_number(self.known, it) if isinstance(it, int) else of_name(self.known, it)) for it in fields]
         own = [field.number for _, field in chosen if field]
+        if self.most is not None:
+            self._fill([])
+            self._allow(len(chosen))
         self._fill(own)
         self._find(own, len(own) < len(chosen))
         return [Column(field) if field else self._named(name) for name, field in chosen]
+
+    def _allow(self, columns: int) -> None:
+        """Refuses so many columns if their values of 8 bytes are more than the most."""
+        if self.most is not None and 8 * self.rows * columns > self.most:
+            raise FitError(OVER_LIMIT, None)
 
     def _fill(self, wanted: List[int]) -> None:
         """Reads the fields with these numbers, as whole numbers of at most 4 bytes, and what the messages hold."""
@@ -178,39 +191,54 @@ def _objects(part: Part, raw: bool) -> np.ndarray:
     return column
 
 
-def _scaled(field: Field, column: np.ndarray) -> np.ndarray:
+def _scaled(field: Field, column: np.ndarray, out: Optional[np.ndarray] = None) -> np.ndarray:
     """column / scale - offset, each value the nearest float: only the last step rounds."""
     parts, whole = field.scale.denominator, field.scale.numerator
     if parts != 1:
         column = column * parts
     if field.offset:
         column = column - field.offset * whole
-    return np.true_divide(column, whole)
+    return np.true_divide(column, whole, out=out)
 
 
-def in_units(field: Field, column: np.ndarray, raw: bool) -> np.ndarray:
-    """The whole numbers of the library in the unit of their field."""
-    return column if raw else _dates(column) if field.unit in _DATES else _floats(field, column)
+def in_units(field: Field, column: np.ndarray, raw: bool, out: Optional[np.ndarray] = None) -> np.ndarray:
+    """The whole numbers of the library in the unit of their field. They may be put where they are."""
+    return column if raw else _dates(column, out) if field.unit in _DATES else _floats(field, column, out)
 
 
-def _floats(field: Field, column: np.ndarray, step: int = 1 << 15) -> np.ndarray:
+def _floats(field: Field, column: np.ndarray, out: Optional[np.ndarray], step: int = 1 << 15) -> np.ndarray:
     """The same of a column in which NO_VALUE is none, by pieces that stay in the cache."""
-    floats = np.empty(len(column))
+    floats = np.empty(len(column)) if out is None else out.view(float)
     for at in range(0, len(column), step):
-        part, out = column[at:at + step], floats[at:at + step]
-        out[:] = _scaled(field, part)
-        out[part == NO_VALUE] = np.nan
+        part = column[at:at + step]
+        none = part == NO_VALUE
+        _scaled(field, part, floats[at:at + step])
+        if none.any():
+            floats[at:at + step][none] = np.nan
     return floats
 
 
-def _dates(column: np.ndarray) -> np.ndarray:
-    dates = column + np.int64(_EPOCH)
-    dates[(column < _FIRST_DATE) | (column > 0xFFFFFFFF)] = NO_VALUE  # which is NaT
+def _dates(column: np.ndarray, out: Optional[np.ndarray]) -> np.ndarray:
+    none = (column < _FIRST_DATE) | (column > 0xFFFFFFFF)
+    dates = np.add(column, np.int64(_EPOCH), out=out)
+    dates[none] = NO_VALUE  # which is NaT
     return dates.view("M8[s]")
 
 
-def units_of(columns: List[Column], raw: bool) -> Dict[str, str]:
-    return {it.field.name: "" if raw else it.field.unit for it in columns}
+def columns_of(data, message: Union[int, str], fields: Optional[List[Union[int, str]]], raw: bool, enums: bool = False,
+               most: Optional[int] = None) -> Tuple[Columns, int, List[Union[int, str]]]:
+    """The columns of a file, how many rows they have, and the fields that neither the Profile nor the file has. With enums the numbers of
+    an enum are shown by their names. More bytes of values than the most are refused."""
+    file = File(data, message, most)
+    columns = file.columns() if fields is None else file.chosen(fields)
+    known = [it for it in columns if it is not None]
+    units = {it.field.name: "" if raw else it.field.unit for it in known}
+    found = Columns({it.field.name: values for it, values in zip(known, file.filled(known, raw))}, units)
+    for it in known if enums else ():
+        names, numbers = None if it.parts else enum_of(file.message, it.field), whole(found[it.field.name])
+        if names and numbers is not None:
+            found[it.field.name], found.units[it.field.name] = named(numbers, names), ENUM
+    return found, file.rows, [name for name, it in zip(fields or [], columns) if it is None]
 
 
-__all__: Tuple[str, ...] = ("Column", "File", "units_of")
+__all__: Tuple[str, ...] = ("Column", "File", "columns_of", "in_units")

@@ -1,7 +1,8 @@
-"""Names and units of messages and fields, as the public FIT Profile has them (profile.txt)."""
+"""Names and units of messages and fields, and names of values, as the public FIT Profile has them (profile.txt, enums.txt)."""
 
 from __future__ import annotations
 
+import functools
 import pathlib
 from fractions import Fraction
 from typing import NamedTuple
@@ -43,8 +44,30 @@ def _read(text: str) -> dict[str, tuple[int, dict[int, Field]]]:
     return found
 
 
+_FOLDER = pathlib.Path(__file__).resolve().parent
+
 # Of each message, by its name, the global number and the fields by their numbers.
-MESSAGES = _read((pathlib.Path(__file__).resolve().parent / "profile.txt").read_text())
+MESSAGES = _read((_FOLDER / "profile.txt").read_text())
+
+
+@functools.lru_cache(None)
+def _enums() -> dict[tuple[int, str], dict[int, str]]:
+    """Of each field whose values have names, by the number of its message and its name, the names by the values."""
+    found: dict[tuple[int, str], dict[int, str]] = {}
+    for line in (_FOLDER / "enums.txt").read_text().splitlines():
+        first, *rest = line.split()
+        if line.startswith(" "):
+            names[int(first)] = rest[0]
+        elif first != "#":
+            names = {}
+            for message, field in (it.split(".") for it in rest):
+                found[MESSAGES[message][0], field] = names
+    return found
+
+
+def enum_of(message: int, field: Field) -> dict[int, str] | None:
+    """The names of the values of a field, if they have names."""
+    return _enums().get((message, field.name))
 
 # The columns that a file always gets, in their order: those of `fitrec table`. Others follow if its messages have them.
 _SUMMARY = [254, 253, 0, 1, 2]

@@ -2,6 +2,7 @@
 
 import pathlib
 import pickle
+import subprocess
 import sys
 import tempfile
 import unittest
@@ -124,6 +125,109 @@ WIDE = framed("""
     62 00 01 00 14 08 03 01 02 C8 04 88 C9 08 8E CA 08 8F CB 05 07 CC 04 84 CD 02 0D 27 02 84 03 05 02 00 06 04 00 09 01 00
     02 64 3FC00000 FFFFFFFFFFFFFFFE FFFFFFFFFFFFFFFE 6162006364 0001FFFF FF01 01F5 00C8 3E800000 07
     02 FF FFFFFFFF 7FFFFFFFFFFFFFFF FFFFFFFFFFFFFFFF 0000000000 FFFFFFFF FFFF FFFF FFFF FFFFFFFF 08""")
+
+
+# The sports 2, none and 1, the sub-sports 7, 200 and none, and the events none, 8 and 9.
+SESSIONS = framed("40 00 00 12 00 03 05 01 00 06 01 00 00 01 00  00 02 07 FF  00 FF C8 08  00 01 FF 09")
+NAMED = {"sport": ["cycling", None, "running"], "sub_sport": ["road", "200", None], "event": [None, "session", "lap"]}
+
+
+class OfEnums(unittest.TestCase):
+    def test_names(self):
+        for words in {}, {"raw": True}:
+            found = fitrec.read(SESSIONS, "session", [*NAMED, "total_calories"], enums=True, **words)
+            self.assertEqual({name: found[name].tolist() for name in NAMED}, NAMED)
+            self.assertEqual(list(found.units.values()), [*["enum"] * 3, "" if words else "kcal"])
+            self.assertEqual(found["total_calories"].dtype, np.dtype(np.int64 if words else float))
+        self.assertEqual(fitrec.read(SESSIONS, "session", "sport")["sport"].tolist()[::2], [2.0, 1.0])
+        self.assertEqual(fitrec.read(SESSIONS, "session", enums=True)["sub_sport"].tolist(), NAMED["sub_sport"])
+
+    def test_other_types(self):
+        # the sport as a float, and as two numbers, which have no names
+        as_float = framed("40 00 00 12 00 01 05 04 88  00 00 00 00 40")
+        self.assertEqual(fitrec.read(as_float, "session", "sport", enums=True)["sport"].tolist(), ["cycling"])
+        # half a number, and no finite one
+        for number in "3F000000", "7F800000", "7F000000":
+            other = framed("40 00 01 00 12 01 05 04 88  00" + number)
+            self.assertEqual(fitrec.read(other, "session", "sport", raw=True, enums=True)["sport"].dtype, np.dtype(float))
+            # an infinity is none in units
+            self.assertEqual(fitrec.read(other, "session", "sport", enums=True).units["sport"], "enum" if number == "7F800000" else "")
+        as_several = framed("40 00 00 12 00 01 05 02 00  00 02 01")
+        self.assertEqual(fitrec.read(as_several, "session", "sport", enums=True)["sport"][0].tolist(), [2, 1])
+
+    def test_in_pandas(self):
+        table = fitrec.read(SESSIONS, "session", enums=True).to_pandas()
+        self.assertEqual([str(table[name].dtype) for name in NAMED], ["category"] * 3)
+        self.assertEqual(table["sport"].value_counts().to_dict(), {"cycling": 1, "running": 1})
+
+
+class OfLimits(unittest.TestCase):
+    def refused(self, call, *words, **more):
+        with self.assertRaises(fitrec.FitError) as caught:
+            call(*words, **more)
+        self.assertEqual(caught.exception.kind, "OverLimit")
+        return caught.exception.place
+
+    def test_bytes_of_a_file(self):
+        many = len(RIDE)
+        with tempfile.TemporaryDirectory() as folder:
+            path = pathlib.Path(folder, "ride.fit")
+            path.write_bytes(RIDE)
+            for source in RIDE, memoryview(RIDE), path, str(path):
+                for call in fitrec.read, fitrec.salvage, fitrec.skip, fitrec.split:
+                    self.assertEqual(self.refused(call, source, most_bytes=many - 1), many - 1)
+                for call in fitrec.salvage, fitrec.skip, fitrec.split:
+                    self.assertTrue(call(source, most_bytes=many))
+                for call in fitrec.check, fitrec.finish:
+                    self.assertEqual(self.refused(call, source, most_bytes=many - 1), many - 1)
+
+    def test_bytes_that_are_made(self):
+        # three messages with columns of eight bytes a value
+        fields = ["field_%d" % it for it in range(12)]
+        self.assertIsNone(self.refused(fitrec.read, RIDE, fields=fields, most_bytes=8 * 12 * 3 - 1))
+        self.assertEqual(len(fitrec.read(RIDE, fields=fields, most_bytes=8 * 12 * 3)), 12)
+        self.assertIsNone(self.refused(fitrec.read, RIDE, most_bytes=8 * 12 * 3 - 1))
+        self.assertEqual(len(fitrec.read(RIDE, most_bytes=8 * 12 * 3)), 12)
+        # what is made has the closing checksum that is cut off
+        whole = framed("40 00 00 14 00 02 FD 04 86 03 01 02" + "".join("00 %02X CA 9A 3B 64" % it for it in range(60)))
+        for call in fitrec.salvage, fitrec.skip:
+            self.assertIsNone(self.refused(call, whole[:-2], most_bytes=len(whole) - 1))
+            self.assertEqual(call(whole[:-2], most_bytes=len(whole)).data, whole)
+        finished = fitrec.finish(RIDE).data
+        self.assertIsNone(self.refused(fitrec.finish, RIDE, most_bytes=len(finished) - 1))
+        self.assertEqual(fitrec.finish(RIDE, most_bytes=len(finished)).data, finished)
+        # a compressed timestamp is written out
+        short = framed("40 00 00 14 00 02 FD 04 86 03 01 02 00 00 CA 9A 3B 5C 85 00 CA 9A 3B 5D")
+        moved = fitrec.shift(short, 1)
+        self.assertGreater(len(moved), len(short))
+        self.assertIsNone(self.refused(fitrec.shift, short, by=1, most_bytes=len(moved) - 1))
+        self.assertEqual(fitrec.shift(short, 1, most_bytes=len(moved)), moved)
+
+    def test_before_memory_is_taken(self):
+        # 1 MB with a message in each byte, of which all columns have 100 MB; and a file of a terabyte without contents
+        code = """if True:
+            import fitrec, os, resource, sys, tempfile
+            from test_fitrec import framed_fast
+            file = framed_fast(bytes.fromhex("40 00 00 14 00 00") + bytes(1_000_000))
+            folder = tempfile.mkdtemp()
+            names = [os.path.join(folder, it) for it in ("a", "b")]
+            with open(names[0], "wb") as to:
+                to.write(file)
+            with open(names[1], "wb") as to:
+                os.truncate(names[1], 1 << 40)
+            before, kinds = resource.getrusage(resource.RUSAGE_SELF).ru_maxrss, []
+            for source in [file, *names]:
+                try:
+                    fitrec.read(source, most_bytes=12_000_000)
+                except fitrec.FitError as fault:
+                    kinds.append((fault.kind, fault.place))
+            for fields in None, ["timestamp", "heart_rate", "power", "speed"]:
+                kinds += [it.fault[1:3] for it in fitrec.iter_many(names, fields, workers=1, most_bytes=12_000_000)]
+            print(kinds, resource.getrusage(resource.RUSAGE_SELF).ru_maxrss - before < 50_000)
+            [os.unlink(it) for it in names]"""
+        said = subprocess.check_output([sys.executable, "-c", code], cwd=pathlib.Path(__file__).parent, text=True)
+        pair = [("OverLimit", None), ("OverLimit", 12_000_000)]
+        self.assertEqual(said, "%s True\n" % [pair[0], *pair, *pair, *pair])
 
 
 class OfOtherValues(unittest.TestCase):
@@ -264,13 +368,21 @@ class OfTables(unittest.TestCase):
 
     def test_one(self):
         table = fitrec.read(RIDE).to_pandas()
-        self.assertEqual((len(table), table["heart_rate"][0], str(table["timestamp"][0])), (3, 92.0, "2021-09-08 01:46:40"))
+        self.assertEqual((len(table), table["heart_rate"][0], str(table["timestamp"][0])), (3, 92.0, "2021-09-08 01:46:40+00:00"))
+        self.assertEqual(table.attrs["units"]["speed"], "m/s")
 
     def test_of_columns(self):
         import pandas
 
         ride = fitrec.read(RIDE)
-        self.assertTrue(pandas.DataFrame(ride).equals(ride.to_pandas()))
+        table = ride.to_pandas()
+        self.assertEqual(str(table["timestamp"].dtype), "datetime64[ns, UTC]")
+        table["timestamp"] = table["timestamp"].dt.tz_localize(None)
+        self.assertTrue(pandas.DataFrame(ride).equals(table))
+        # a local time is one of no zone, and a raw one is a number
+        local = fitrec.schema(["local_timestamp"], message="monitoring").to_pandas()["local_timestamp"]
+        self.assertEqual(str(local.dtype), "datetime64[ns]")
+        self.assertEqual(fitrec.read(RIDE, raw=True).to_pandas()["timestamp"].dtype, np.int64)
 
     def test_many_that_lack_a_field(self):
         described = framed((DESCRIPTIONS + described_as(0, 0, 2, "Power", "W") + RECORDS + b"\2\x64").hex())

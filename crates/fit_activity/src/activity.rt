@@ -7,7 +7,6 @@ use std::error::Error;
 use std::fmt::{self, Formatter, Write};
 
 pub(crate) mod checking;
-pub(crate) mod field_value;
 pub(crate) mod seen;
 
 /// The summary of an activity file.

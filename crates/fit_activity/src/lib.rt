@@ -1,4 +1,11 @@
 //! Activities: the entries of a recording, the rules for them, what they add up to, and their messages.
+//!
+//! `Totals` takes a start and entries, refuses those that break a rule, and keeps what they add up to. `speak` and `speak_compressed` make
+//! the message of an entry, `entry_of` and `Replay` hear it again, and `closing_messages` makes those that end a ride. `check_activity`
+//! sums a file up.
+//!
+//! Proved: an entry is refused exactly by the rules of `specs/Rides/Refusal`; the totals are those of the list; a message that was spoken
+//! is heard as the entry that it states, and messages come from one list at most. Trusted is the kit alone.
 #![tactic(auto)]
 
 mod activity;

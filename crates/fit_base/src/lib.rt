@@ -15,6 +15,9 @@
 //! (The test `the_example_of_the_crate` of `fit_format_tests`.) Nothing here takes memory. The contracts use the definitions
 //! in `specs/`: `Base` has the table of types, `Number` the number that bytes encode, `Value` what a field holds, and
 //! `Checksum` the register. The proofs check the tables of the checksum against `Checksum` entry by entry.
+//!
+//! Proved: the number of each field of each type and byte order, which values are invalid, and that a checksum is the fold over the bits,
+//! by whichever table it is computed. Trusted is the kit alone.
 #![tactic(auto)]
 
 mod base;

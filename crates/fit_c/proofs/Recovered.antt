@@ -2,8 +2,8 @@
 use Rattle.std.proofs.Common.{◌≡◌, ◌≤◌, ℕ, List, length, take, inl, inr, subst, sym, ap, ◌∙◌, ◌++◌, length-take, arith}
 use Rattle.fit_activity.specs.declared.activity.Summary.{Summary}
 use Rattle.fit_activity.specs.Messages.RideMessages.{spoken, closing}
-use Rattle.fit_buffers.specs.declared.buffers.Buffers.{Buffers}
-use Rattle.fit_buffers.specs.Buffers.{story_in}
+use Rattle.fit_disk.specs.declared.buffers.Buffers.{Buffers}
+use Rattle.fit_disk.specs.Buffers.{story_in}
 use Rattle.fit_disk.specs.State.{Contents, seen_in}
 use Rattle.fit_disk.specs.Stored.{Stored, at_rest}
 use Rattle.fit_disk.specs.Story.{Story}

@@ -4,5 +4,6 @@ pub mod Room
 pub mod Finished
 pub mod Salvaged
 pub mod Saved
+pub mod Shifted
 pub mod Skipped
 pub mod Values

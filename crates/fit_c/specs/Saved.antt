@@ -6,7 +6,7 @@ use Rattle.fit_disk.specs.State.{Contents}
 use Rattle.fit_grammar.specs.Calls.PlainForm.{plain_of, plain_items, is_too_long}
 use Rattle.fit_grammar.specs.Format.Encoding.{encoded}
 use Rattle.fit_grammar.specs.Format.File.{FileValue}
-use Rattle.fit_files.specs.Printed.Saved.{IsFinishedOf}
+use Rattle.fit_recordings.specs.Saved.{IsFinishedOf}
 use Rattle.fit_c.specs.Repaired.{IsRepairCode, ride_summary_of}
 use Rattle.fit_c.specs.declared.repairing.RideSummary.{RideSummary}
 

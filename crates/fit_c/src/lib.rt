@@ -3,6 +3,9 @@
 //!
 //! Nothing here takes memory, keeps state, or makes a system call. A call reads and writes only the buffers that it is given,
 //! so calls on different buffers may run at the same time.
+//!
+//! Proved: each call answers as its definition in `specs/` has it, for all bytes. Trusted beside the kit is that C hands over buffers as
+//! `fitrec.h` asks; the layout of the structs is checked by `compare/layout.py`.
 #![tactic(auto)]
 
 ghost use Rattle.std.specs.Prelude.{◌≡◌};
@@ -12,6 +15,7 @@ mod columns;
 mod committing;
 mod finishing;
 mod framing;
+pub mod laws;
 mod pieces;
 mod plain;
 mod reading;
@@ -19,6 +23,7 @@ mod repairing;
 mod room;
 mod salvaging;
 mod saving;
+mod shifting;
 mod showing;
 mod skipping;
 mod tape;
@@ -33,6 +38,7 @@ pub use plain::fitrec_plain;
 pub use repairing::{RideSummary, fitrec_repair};
 pub use salvaging::fitrec_salvage;
 pub use saving::fitrec_save;
+pub use shifting::{fitrec_shift, fitrec_shift_start};
 pub use showing::{fitrec_json, fitrec_show};
 pub use skipping::{fitrec_first_file, fitrec_skip};
 pub use values::{fitrec_fields, fitrec_values};

@@ -1,7 +1,7 @@
 // The two files of a recording, in two buffers.
 
 ghost use Rattle.std.specs.Prelude.{◌≡◌, ◌≤◌, ◌<◌, ◌+◌, ◌⊎◌, length, take, Result, OnOk, IfErr, IsErrOf};
-ghost use Rattle.fit_buffers.specs.Buffers.{story_in, counts_in, room_of};
+ghost use Rattle.fit_disk.specs.Buffers.{story_in, counts_in, room_of};
 ghost use Rattle.fit_disk.specs.Counts.{no_calls};
 ghost use Rattle.fit_disk.specs.State.{seen_in};
 ghost use Rattle.fit_disk.specs.Story.{seen_of};
@@ -16,8 +16,7 @@ ghost use Rattle.fit_recorder.specs.declared.fault.RecFault.TheVariants as fault
 ghost use Rattle.fit_c.specs.Repaired.{AreWithin, IsRefused, IsRepaired, IsRepairCode, contents_in, number_or, ride_summary_of};
 
 use fit_activity::Summary;
-use fit_buffers::Buffers;
-use fit_disk::Which;
+use fit_disk::{Buffers, Which};
 use fit_recorder::{CLOSING_ROOM, RecFault, has_changed, recover};
 
 // A length is greater than its buffer.

@@ -13,7 +13,7 @@ use Rattle.std.specs.Borrow.{Bor}
 use Rattle.fit_commands.specs.Each.{AreFoundLines, AreNamesOf, ChecksAll, FoundFile, IsFoundLine, name_of, named_line, refused_by}
 use Rattle.fit_activity.specs.declared.activity.Summary.{Summary}
 use Rattle.fit_commands.specs.Reported.{SumsUpNamed}
-use Rattle.fit_exports.specs.Checked.{checked_json}
+use Rattle.fit_files.specs.Exports.Checked.{checked_json}
 use Rattle.fit_files.specs.Printed.Summary.{summary_text}
 
 pub found_more : (json : Bool) (files : List FoundFile) (text : List ℕ) (refused : ℕ) (file : FoundFile) (line : List ℕ)

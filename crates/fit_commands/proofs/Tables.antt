@@ -3,7 +3,7 @@ use Rattle.std.proofs.Common.{◌≡◌, ℕ, ◌+◌, ◌-◌, ◌≤◌, Bool,
 use Rattle.std.proofs.lemmas.List.{take_all, length-take, length-drop}
 use Rattle.std.specs.Prelude.{String, string_bytes}
 use Rattle.fit_table.specs.declared.layout.Layout.{Layout}
-use Rattle.fit_exports.specs.Tabled.{ShowsTable}
+use Rattle.fit_files.specs.Exports.Tabled.{ShowsTable}
 use Rattle.fit_files.specs.declared.fault.ReportFault.{ReportFault}
 use Rattle.fit_files.specs.declared.fault.ReportFault.TheVariants.{File, Activity, Output, Input, Plain}
 use Rattle.fit_files.specs.declared.reading.ReadFault.{ReadFault}

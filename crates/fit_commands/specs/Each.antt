@@ -10,8 +10,8 @@ use Rattle.fit_table.specs.declared.layout.Layout.{Layout}
 use Rattle.fit_table.specs.Cells.{byte_cell}
 use Rattle.fit_table.specs.Table.{head_of}
 use Rattle.fit_table.specs.Tokens.{WritesTokens}
-use Rattle.fit_exports.specs.Checked.{checked_json}
-use Rattle.fit_exports.specs.Tabled.{tabled}
+use Rattle.fit_files.specs.Exports.Checked.{checked_json}
+use Rattle.fit_files.specs.Exports.Tabled.{tabled}
 use Rattle.fit_files.specs.declared.fault.ReportFault.{ReportFault}
 use Rattle.fit_words.specs.Shown.{shown_text}
 use Rattle.fit_files.specs.Printed.Summary.{summary_text}

@@ -10,8 +10,8 @@ use Rattle.fit_finishing.specs.declared.finishing.FinishFault.{FinishFault}
 use Rattle.fit_finishing.specs.declared.finishing.FinishFault.TheVariants as finishes
 use Rattle.fit_recorder.specs.Calls.Recovery.{IsRecoveryFault}
 use Rattle.fit_recorder.specs.declared.fault.RecFault.TheVariants.{NothingRecorded, Damaged}
-use Rattle.fit_files.specs.declared.repairing.RepairFault.{RepairFault}
-use Rattle.fit_files.specs.declared.repairing.RepairFault.TheVariants as repairs
+use Rattle.fit_recordings.specs.declared.repairing.RepairFault.{RepairFault}
+use Rattle.fit_recordings.specs.declared.repairing.RepairFault.TheVariants as repairs
 use Rattle.fit_words.specs.declared.request.SalvageForm.{SalvageForm}
 use Rattle.fit_commands.specs.Reading.{IsFileFault, fault_of_read}
 use Rattle.fit_commands.specs.declared.fault.Fault.{Fault}

@@ -2,4 +2,8 @@ pub mod Reading
 pub mod Faults
 pub mod Reported
 pub mod Places
+pub mod Chosen
 pub mod Each
+pub mod Shifted
+pub mod JoinedFile
+pub mod Scripts

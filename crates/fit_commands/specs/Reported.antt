@@ -17,16 +17,16 @@ use Rattle.fit_words.specs.declared.request.SalvageForm.{SalvageForm}
 use Rattle.fit_commands.specs.declared.like.Like.{Like}
 use Rattle.fit_mending.specs.Found.{AreFound}
 use Rattle.fit_files.specs.declared.salvage.Salvage.{Salvage}
-use Rattle.fit_files.specs.declared.saving.SavedRide.{SavedRide}
+use Rattle.fit_recordings.specs.declared.saving.SavedRide.{SavedRide}
 use Rattle.fit_files.specs.Calls.Reading.{ReadsAll}
-use Rattle.fit_files.specs.Calls.Rereading.{AreSumsOf}
+use Rattle.fit_recordings.specs.Rereading.{AreSumsOf}
 use Rattle.fit_files.specs.Printed.Mended.{IsMended}
 use Rattle.fit_files.specs.Printed.Parts.{AreLines}
 use Rattle.fit_files.specs.Printed.PlainFile.{PlainsTo, messages_text}
 use Rattle.fit_files.specs.Printed.Kept.{IsRowOf, heard_line, kept_lines}
-use Rattle.fit_files.specs.Printed.Repaired.{Repairs}
+use Rattle.fit_recordings.specs.Repaired.{Repairs}
 use Rattle.fit_files.specs.Printed.Salvaged.{IsSalvage, saved_file}
-use Rattle.fit_files.specs.Printed.Saved.{SavesRide}
+use Rattle.fit_recordings.specs.Saved.{SavesRide}
 use Rattle.fit_files.specs.Printed.Summary.{summary_text}
 use Rattle.fit_files.specs.Printed.Checked.{SumsUp}
 use Rattle.fit_finishing.specs.declared.finishing.Finishing.{Finishing}
@@ -35,9 +35,9 @@ use Rattle.fit_files.specs.declared.kept.Heard.{Heard}
 use Rattle.fit_files.specs.declared.kept.Kept.{Kept}
 use Rattle.fit_files.specs.declared.kept.Kept.TheVariants.{Front, Pieces}
 use Rattle.fit_files.specs.declared.fault.ReportFault.{ReportFault}
-use Rattle.fit_files.specs.declared.repairing.FileSums.{FileSums}
-use Rattle.fit_files.specs.declared.repairing.RepairFault.{RepairFault}
-use Rattle.fit_files.specs.declared.repairing.RepairFault.TheVariants as repairs
+use Rattle.fit_recordings.specs.declared.repairing.FileSums.{FileSums}
+use Rattle.fit_recordings.specs.declared.repairing.RepairFault.{RepairFault}
+use Rattle.fit_recordings.specs.declared.repairing.RepairFault.TheVariants as repairs
 use Rattle.fit_commands.specs.Faults.{IsRecordingReported, IsRepairReported, IsReportFault}
 use Rattle.fit_commands.specs.Reading.{IsFileFault}
 use Rattle.fit_commands.specs.declared.fault.Fault.{Fault}

@@ -1,10 +1,11 @@
 // The messages and the columns that words choose for a table.
 
-ghost use Rattle.std.specs.Prelude.{◌≤◌, length};
+ghost use Rattle.std.specs.Prelude.{◌≤◌, length, OnOk};
+ghost use Rattle.fit_commands.specs.Chosen.{AddsColumn};
 
 use arrayvec::ArrayVec;
 use fit_profile::{fields_of, usual_fields};
-use fit_table::{Layout, field_of_word, message_of_word};
+use fit_table::{DeveloperColumns, Layout, MOST_NAMES, field_of_word, message_of_word};
 use fit_words::TableForm;
 
 // The most columns of a table.
@@ -18,9 +19,11 @@ const TIMESTAMP: u8 = 253;
 
 /// What the words choose.
 #[derive(Drop)]
-pub struct Chosen {
+pub struct Chosen<'a> {
     pub message: u16,
     pub fields: ArrayVec<u8, MOST_COLUMNS>,
+    /// The names of developer fields, whose columns follow.
+    pub names: ArrayVec<&'a [u8], MOST_NAMES>,
 }
 
 /// Why words choose nothing.
@@ -34,17 +37,43 @@ pub enum NotChosen<'a> {
     TooMany,
 }
 
-impl Chosen {
+impl<'a> Chosen<'a> {
     /// The messages and fields that the words name: records, and the fields that have a name, if there are no words. With
     /// `--profile` these are the first 127 of the Profile, after the time.
-    pub fn of<'a>(form: &TableForm<'a>) -> Result<Chosen, NotChosen<'a>> {
+    pub fn of(form: &TableForm<'a>) -> Result<Chosen<'a>, NotChosen<'a>> {
         let message = message_in(form.profile, form.message)?;
-        let fields = match form.fields {
-            Some(words) => fields_in(form.profile, message, words)?,
-            None if form.profile => profile_fields(message),
-            None => all_of(usual_fields(message)),
-        };
-        Ok(Chosen { message, fields })
+        match form.fields {
+            Some(words) => named_in(form.profile, message, words),
+            None if form.profile => Ok(Chosen::with(message, profile_fields(message))),
+            None => Ok(Chosen::with(message, all_of(usual_fields(message)))),
+        }
+    }
+
+    // These fields, and no developer field.
+    fn with(message: u16, fields: ArrayVec<u8, MOST_COLUMNS>) -> Chosen<'a> {
+        Chosen {
+            message,
+            fields,
+            names: ArrayVec::new(),
+        }
+    }
+
+    // Adds the column that a word names: of a field, or with `--profile`, if no field has this name, of a developer field.
+    fn add(&mut self, profile: bool, word: &'a str) -> Result<(), NotChosen<'a>>
+        ensures { OnOk result (AddsColumn profile word.now self.old self.new) }
+    {
+        let number = field_of_word(profile, self.message, word);
+        if number.is_none() && (!profile || word.is_empty()) {
+            return Err(NotChosen::Field(word));
+        }
+        if self.fields.len() + self.names.len() >= MOST_COLUMNS {
+            return Err(NotChosen::TooMany);
+        }
+        match number {
+            Some(number) => self.fields.push(number),
+            None => self.names.push(word.as_bytes()),
+        }
+        Ok(())
     }
 
     /// The layout of a table of them.
@@ -57,7 +86,15 @@ impl Chosen {
             raw: form.raw,
             utc: form.utc,
             profile: form.profile,
-            developer: form.profile && form.fields.is_none(),
+            developer: self.developer(form),
+        }
+    }
+
+    fn developer(&self, form: &TableForm<'_>) -> DeveloperColumns<'_> {
+        match form.fields {
+            Some(_) => DeveloperColumns::Named(&self.names),
+            None if form.profile => DeveloperColumns::All,
+            None => DeveloperColumns::Without,
         }
     }
 }
@@ -69,22 +106,16 @@ fn message_in<'a>(profile: bool, word: Option<&'a str>) -> Result<u16, NotChosen
     }
 }
 
-// The fields with these names, which have commas between them.
-fn fields_in<'a>(
-    profile: bool,
-    message: u16,
-    words: &'a str,
-) -> Result<ArrayVec<u8, MOST_COLUMNS>, NotChosen<'a>> {
-    let mut fields = ArrayVec::new();
+// What these names choose, which have commas between them. The time comes before developer fields alone, so that no line is empty.
+fn named_in<'a>(profile: bool, message: u16, words: &'a str) -> Result<Chosen<'a>, NotChosen<'a>> {
+    let mut chosen = Chosen::with(message, ArrayVec::new());
     for word in words.split(',') {
-        let Some(number) = field_of_word(profile, message, word) else {
-            return Err(NotChosen::Field(word));
-        };
-        if fields.try_push(number).is_err() {
-            return Err(NotChosen::TooMany);
-        }
+        chosen.add(profile, word)?;
     }
-    Ok(fields)
+    if chosen.fields.is_empty() {
+        chosen.fields.push(TIMESTAMP);
+    }
+    Ok(chosen)
 }
 
 // The time, and the fields of the message that the Profile has, as far as there is room.

@@ -3,7 +3,7 @@
 ghost use Rattle.std.specs.Prelude.{◌≡◌, ◌<◌, ◌≤◌, ◌++◌, ℕ, List, String, length, map, string_bytes, IfErr, IfOk, IfSome, OnOk, true, false};
 ghost use Rattle.fit_grammar.specs.Calls.Output.{WritesText};
 ghost use Rattle.fit_commands.specs.Each.{AddsTable, AreNamesOf, ChecksAll, ChecksEach, IsFoundLine, IsStopped, TablesAll, TablesEach, left_out_by, name_cell, named_line, refused_by};
-ghost use Rattle.fit_exports.specs.Checked.{checked_json};
+ghost use Rattle.fit_files.specs.Exports.Checked.{checked_json};
 ghost use Rattle.fit_table.specs.Cells.{byte_cell};
 ghost use Rattle.fit_commands.specs.declared.fault.Fault.TheVariants.{Refused};
 ghost use Rattle.fit_commands.specs.Reading.{IsFileFault};
@@ -12,8 +12,7 @@ ghost use Rattle.fit_commands.specs.Reported.{SumsUpNamed};
 use crate::fault::Fault;
 use crate::input::{MOST_BYTES, fault_of_report, open_file, read_input};
 use fit_activity::Summary;
-use fit_exports::{print_checked, table_head, table_input};
-use fit_files::{ReportFault, SummaryLine, sum_up_input};
+use fit_files::{ReportFault, SummaryLine, print_checked, sum_up_input, table_head, table_input};
 use fit_grammar::Sink;
 use fit_table::Layout;
 use fit_words::{Names, ShownWord, text_of_word};

@@ -1,12 +1,12 @@
 // The subcommand `show` with `--json` or `--gpx`: prints a file in another form than its text.
 
-ghost use Rattle.fit_exports.specs.Exported.{Exports};
+ghost use Rattle.fit_files.specs.Exports.Exported.{Exports};
 ghost use Rattle.fit_commands.specs.Faults.{IsReportFault};
 ghost use Rattle.fit_commands.specs.Reported.{ReportsRun};
 
 use crate::fault::Fault;
 use crate::input::{MOST_BYTES, fault_of_report, open_file};
-use fit_exports::{ExportForm, export_input};
+use fit_files::{ExportForm, export_input};
 use std::io::Write;
 use std::rt::Files;
 

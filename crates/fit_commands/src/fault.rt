@@ -1,9 +1,9 @@
 // The faults of the program.
 
 use fit_activity::ActivityFault;
-use fit_files::Lack;
 use fit_grammar::{FileFault, PlainFault};
 use fit_recorder::RecFault;
+use fit_recordings::Lack;
 use fit_scripts::ScriptFault;
 use fit_words::ShownWord;
 use thiserror::Error;
@@ -32,9 +32,24 @@ pub enum Fault<'a> {
     /// The file of this name, whose definitions were to be taken, is not a FIT file that the program reads.
     #[error("{}: {} at {}", ShownWord(.0), .1.kind, .1.place)]
     NotLike(&'a str, FileFault),
+    /// The file of this name, a part of an activity, is not a FIT file that the program reads. A second line says what can be done.
+    #[error("{}: {} at {}\nfitrec: salvage --skip --plain --finish makes a whole file of what is readable of a torn one", ShownWord(.0), .1.kind, .1.place)]
+    NotPart(&'a str, FileFault),
+    /// The file of this name, a part of an activity, has another sport than those before it. A second line says what can be done.
+    #[error("{}: OtherSport\nfitrec: the parts before it have another sport; join --as-given takes the parts as they are given", ShownWord(.0))]
+    OtherSport(&'a str),
+    /// The file of this name, a part of an activity, begins before one of those before it ends. A second line says what can be done.
+    #[error("{}: Overlap\nfitrec: it begins before a part before it ends; join --as-given takes the parts as they are given", ShownWord(.0))]
+    Overlap(&'a str),
     /// The plain form of a file would be too long, or memory was refused.
     #[error("{} at {}", .0.kind, .0.place)]
     Plain(PlainFault),
+    /// No message of a file has a time, so its ride has no beginning.
+    #[error("NoTime")]
+    NoTime,
+    /// A time of the message at this place would be below 0, or 4,294,967,295 or more.
+    #[error("TimeTooFar at {0}")]
+    TimeTooFar(usize),
     /// The file is not an activity.
     #[error("{0}")]
     Activity(ActivityFault),

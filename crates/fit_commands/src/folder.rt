@@ -8,8 +8,9 @@ ghost use Rattle.fit_commands.specs.Faults.{fault_of_open, IsReadReported, IsLac
 use crate::fault::Fault;
 use crate::input::{read_input, read_input_front};
 use fit_disk::{DATA_NAME, Files, JOURNAL_NAME, OpenFault, Witness, is_one_missing, open_to_read};
-use fit_files::{FrontRead, Lack};
+use fit_files::FrontRead;
 use fit_recorder::RecFault;
+use fit_recordings::Lack;
 use std::fs::File;
 
 /// Opens the files of this folder under a witness, and creates those that are missing.

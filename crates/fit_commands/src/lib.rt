@@ -5,7 +5,11 @@
 //! choose for a table, `each` what is done with several files, and `fault` the line that reports an error.
 //!
 //! Contracts use the definitions of `specs/`: `Reading` has the faults of a file that is not read, `Faults` has those of each library
-//! call and subcommand, `Reported` has what a subcommand prints, and `Places` has the names of a recording's files.
+//! call and subcommand, `Reported` has what a subcommand prints, `Shifted` and `JoinedFile` have both of `shift` and `join`, and `Places` has the names of a recording's
+//! files.
+//!
+//! Proved: what each subcommand prints and which fault it reports, for what was read. Not proved: which calls are made on a folder, and in
+//! which order; `compare/` checks it. Trusted are the system, and that a file is what reads gave.
 #![tactic(auto)]
 
 mod beside;
@@ -18,14 +22,20 @@ mod fault;
 mod finish;
 mod folder;
 mod input;
+mod join;
 mod like;
 mod plain;
+mod record;
 mod repair;
+mod replay;
 mod salvage;
 mod save;
+mod shift;
 mod show;
+mod simulate;
 mod split;
 mod table;
+mod version;
 
 pub use check::check_file;
 pub use chosen::{Chosen, NotChosen};
@@ -34,11 +44,17 @@ pub use export::export_file;
 pub use fault::Fault;
 pub use folder::open_folder;
 pub use input::{fault_of_report, read_file};
+pub use join::join_parts;
 pub use like::Like;
 pub use plain::make_plain;
+pub use record::{record_files, record_folder};
 pub use repair::{repair_files, repair_folder, repair_holding, verify_folder, verify_read};
+pub use replay::{replay_files, replay_script};
 pub use salvage::salvage_file;
 pub use save::save_folder;
+pub use shift::{NotShift, make_shifted, shift_by};
 pub use show::show_file;
+pub use simulate::simulate_script;
 pub use split::split_file;
 pub use table::{table_file, table_of_all};
+pub use version::print_version;

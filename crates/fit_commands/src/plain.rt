@@ -33,7 +33,7 @@ pub fn make_plain<'a, O: Write>(
 }
 
 // The plain form of the file of this name.
-fn plain_of<'a, R: Files + AllocGlobal>(rt: &R, name: &'a str) -> Result<File, Fault<'a>>
+pub(crate) fn plain_of<'a, R: Files + AllocGlobal>(rt: &R, name: &'a str) -> Result<File, Fault<'a>>
     ensures form { IfOk result IsFormOfFile }
     ensures reported { IfErr result (IsFormReported name.entry) }
 {

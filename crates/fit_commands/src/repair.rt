@@ -6,8 +6,8 @@ ghost use Rattle.fit_disk.specs.State.{seen_in};
 ghost use Rattle.fit_disk.specs.Story.{seen_of};
 ghost use Rattle.fit_disk.specs.declared.disk.Which.TheVariants.{Data, Journal};
 ghost use Rattle.fit_recorder.specs.Files.Committed.{HasCounted};
-ghost use Rattle.fit_files.specs.Calls.Rereading.{AreSumsOf};
-ghost use Rattle.fit_files.specs.Printed.Repaired.{Repairs, IsRepairFault};
+ghost use Rattle.fit_recordings.specs.Rereading.{AreSumsOf};
+ghost use Rattle.fit_recordings.specs.Repaired.{Repairs, IsRepairFault};
 ghost use Rattle.fit_commands.specs.Faults.{AnswersRepair, IsFolderFault, IsOpenReported};
 ghost use Rattle.fit_commands.specs.Reported.{ReadsBoth, ReportsRepair, PrintsSummary, PrintsNothing, VerifiesFolder};
 
@@ -15,8 +15,8 @@ use crate::fault::Fault;
 use crate::folder::{open_files, open_recorded};
 use crate::input::read_input;
 use fit_disk::{DATA_NAME, JOURNAL_NAME, Shadow, Trusting, Witness};
-use fit_files::{FileSums, RepairFault, repair, repair_and_read};
 use fit_recorder::RecFault;
+use fit_recordings::{FileSums, RepairFault, repair, repair_and_read};
 use std::io::{Read, Write};
 
 /// Recovers the recording of this folder, and prints its summary. If a file is missing, none is created, and the fault is

@@ -9,8 +9,9 @@ use crate::fault::Fault;
 use crate::folder::read_recorded;
 use crate::input::{fault_of_report, print_end};
 use fit_disk::DATA_NAME;
-use fit_files::{FrontRead, Lack, SaveFault, SavedRide, print_summary, save_ride};
+use fit_files::{FrontRead, print_summary};
 use fit_recorder::{RecFault, count_uncommitted, has_counted_bytes, leave_changed};
+use fit_recordings::{Lack, SaveFault, SavedRide, save_ride};
 use std::io::Write;
 
 /// Writes the plain form of the file that a repair of the folder `name` would make to the file `to`, which may exist, and prints its

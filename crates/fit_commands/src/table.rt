@@ -1,14 +1,14 @@
 // The subcommand `table`: prints the values of a file as a table.
 
 ghost use Rattle.std.specs.Prelude.{◌≤◌, length, None};
-ghost use Rattle.fit_exports.specs.Tabled.{ShowsHeld, ShowsTable};
-ghost use Rattle.fit_exports.specs.declared.held.Held.{Held as AnyHeld};
+ghost use Rattle.fit_files.specs.Exports.Tabled.{ShowsHeld, ShowsTable};
+ghost use Rattle.fit_files.specs.declared.export.held.Held.{Held as AnyHeld};
 ghost use Rattle.fit_commands.specs.Faults.{IsReportFault};
 ghost use Rattle.fit_commands.specs.Reported.{ReportsRun};
 
 use crate::fault::Fault;
 use crate::input::{MOST_BYTES, fault_of_report, open_file};
-use fit_exports::{Held, table_held_input, table_input};
+use fit_files::{Held, table_held_input, table_input};
 use fit_table::Layout;
 use std::alloc::Global;
 use std::io::{self, Read, Write};

@@ -16,7 +16,7 @@ use Rattle.fit_disk.specs.Counts.{Counts, Room, no_calls}
 use Rattle.fit_disk.specs.State.{Contents, seen_in}
 use Rattle.fit_disk.specs.Story.{Story, seen_of}
 use Rattle.fit_disk.specs.declared.disk.Which.TheVariants.{Data, Journal}
-use Rattle.fit_notes.specs.Numbers.{numbers_of}
+use Rattle.fit_disk.specs.Numbers.{numbers_of}
 use Rattle.fit_plan.specs.declared.plan.Plan.{Plan}
 use Rattle.fit_plan.specs.Plan.{plan_story, plan_since, plan_counts, room_in, whole_room, plan_log, most_planned_calls, most_planned_bytes}
 use Rattle.fit_recorder.specs.Calls.Windows.{AreAt, HasMoved, HasRoomForCalls, place_of}

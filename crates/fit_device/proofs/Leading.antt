@@ -3,8 +3,8 @@ use Rattle.std.proofs.Common.{◌≡◌, ◌∙◌, subst}
 use Rattle.fit_device.specs.declared.plan.DevicePlan.{DevicePlan}
 use Rattle.fit_device.specs.Planned.{Leads}
 use Rattle.fit_disk.specs.Story.{Story}
-use Rattle.fit_notes.proofs.Numbers.{same_story}
-use Rattle.fit_notes.specs.Numbers.{numbers_of}
+use Rattle.fit_disk.proofs.Numbers.{same_story}
+use Rattle.fit_disk.specs.Numbers.{numbers_of}
 use Rattle.fit_plan.specs.declared.plan.Plan.{Plan}
 use Rattle.fit_plan.specs.Plan.{plan_since}
 

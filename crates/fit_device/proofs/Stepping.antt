@@ -13,7 +13,7 @@ use Rattle.fit_device.specs.Taken.{IsTaken, IsPut}
 use Rattle.fit_disk.specs.Runs.{TakesRoom}
 use Rattle.fit_disk.specs.State.{Contents}
 use Rattle.fit_disk.specs.Story.{Story, Throughout}
-use Rattle.fit_notes.specs.Numbers.{numbers_of}
+use Rattle.fit_disk.specs.Numbers.{numbers_of}
 use Rattle.fit_plan.proofs.Room.{has_room}
 use Rattle.fit_plan.specs.declared.plan.Plan.{Plan}
 use Rattle.fit_plan.specs.Plan.{plan_story, plan_since, plan_log, most_planned_calls, most_planned_bytes}

@@ -12,3 +12,4 @@ pub mod Recovering
 pub mod Lending
 pub mod Asking
 pub mod Windowed
+pub mod Session

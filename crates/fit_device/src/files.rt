@@ -6,7 +6,7 @@ ghost use Rattle.fit_device.specs.Planned.{Leads};
 ghost use Rattle.fit_plan.specs.Plan.{plan_story, plan_since};
 
 use crate::plan::DevicePlan;
-use fit_notes::Notes;
+use fit_disk::Notes;
 use fit_plan::Plan;
 
 /// Two files of which C has the calls in its plan.

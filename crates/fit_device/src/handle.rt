@@ -11,7 +11,7 @@ use crate::files::Files;
 use crate::plan::DevicePlan;
 use crate::seal::seal_of;
 use crate::thawed::Thawed;
-use fit_notes::Notes;
+use fit_disk::Notes;
 use fit_plan::Plan;
 use fit_recorder::{FoundRide, FrozenRecorder, Recorder, continue_with};
 use std::mem;

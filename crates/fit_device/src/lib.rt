@@ -1,7 +1,10 @@
-//! A recorder in a device whose program is written in C. `include/fitrec.h` documents the same calls for C.
+//! A recorder in a device whose program is written in C. `include/fitrec_device.h` documents the same calls for C.
 //!
 //! The device keeps the recorder as plain numbers (`handle`), and carries out the calls of its two files itself, from a plan
 //! (`plan`). Nothing here takes memory, keeps state between two calls, or makes a system call.
+//!
+//! Proved: a step over the plan is the same step of the recorder, the numbers that C keeps are those of the recorder, and a recovery by
+//! windows is a recovery. Trusted beside the kit is what C does: it keeps the numbers as they are and carries out each plan.
 #![tactic(auto)]
 
 mod answer;
@@ -15,6 +18,7 @@ mod plan;
 mod recovering;
 mod sample;
 mod seal;
+mod session;
 mod starting;
 mod state;
 mod thawed;
@@ -28,6 +32,7 @@ pub use handle::Handle;
 pub use plan::DevicePlan;
 pub use recovering::{fitrec_erase, fitrec_recover, fitrec_reopen};
 pub use sample::DeviceSample;
+pub use session::{fitrec_session_base, fitrec_session_may, fitrec_session_offset};
 pub use starting::{fitrec_commit, fitrec_start, fitrec_stop};
 pub use state::{DeviceState, fitrec_state_of};
 pub use windowed::RecoveryHandle;

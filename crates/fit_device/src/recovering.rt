@@ -19,7 +19,7 @@ use crate::files::Files;
 use crate::handle::Handle;
 use crate::plan::DevicePlan;
 use fit_activity::Summary;
-use fit_notes::Notes;
+use fit_disk::Notes;
 use fit_plan::{LentJournal, Plan};
 use fit_recorder::{FoundRide, RecFault, Recovery, erase_known, settle};
 

@@ -18,7 +18,7 @@ use crate::answer::{NO_RECORDER, NO_SPORT, code_of, code_of_fault};
 use crate::handle::{Handle, no_files};
 use crate::plan::DevicePlan;
 use fit_activity::{Sport, Start};
-use fit_notes::Notes;
+use fit_disk::Notes;
 use fit_plan::Plan;
 use fit_recorder::Recorder;
 

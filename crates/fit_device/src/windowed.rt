@@ -17,7 +17,7 @@ ghost use Rattle.fit_plan.specs.Plan.{plan_story, plan_since, plan_counts, room_
 use crate::believed::Believed;
 use crate::files::Files;
 use crate::seal::{ASKED, seal_of_recovery};
-use fit_notes::Notes;
+use fit_disk::Notes;
 use fit_plan::{LentJournal, Plan};
 use fit_recorder::{FrozenRecovery, Recovery};
 use std::mem;

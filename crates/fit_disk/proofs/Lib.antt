@@ -2,7 +2,9 @@
 pub mod Moments
 pub mod Leaving
 pub mod Sound
+pub mod Numbers
 mod Cycling
+mod Putting
 mod Joining
 mod MemoryFiles
 mod Records

@@ -17,3 +17,6 @@ pub mod Witness
 pub mod Shadow
 pub mod Files
 pub mod Code
+pub mod Noted
+pub mod Numbers
+pub mod Buffers

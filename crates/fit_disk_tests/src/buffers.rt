@@ -1,8 +1,7 @@
 // The disk over two buffers of the caller.
 
 use crate::equality::equal;
-use fit_buffers::Buffers;
-use fit_disk::{DeviceError, Disk, Which};
+use fit_disk::{Buffers, DeviceError, Disk, Which};
 use std::process::Abort;
 
 // The calls of the buffers without their contracts: only their answers count here.

@@ -3,3 +3,4 @@ pub mod Pieces
 pub mod Reported
 mod Headers
 mod Mending
+mod Exports

@@ -1,5 +1,4 @@
 -- What is read and printed.
 pub mod Printed
 pub mod Inputs
-pub mod Saved
 pub mod Salvaged

@@ -1,4 +1,3 @@
--- What the contracts of other public calls state: an input read whole, files read again, and the numbers of faults.
+-- What the contracts of other public calls state: an input read whole, and the numbers of faults.
 pub mod Reading
 pub mod FaultCode
-pub mod Rereading

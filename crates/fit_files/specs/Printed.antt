@@ -2,11 +2,8 @@
 pub mod Summary
 pub mod Shown
 pub mod Checked
-pub mod Repaired
 pub mod Salvaged
 pub mod PlainFile
-pub mod Saved
-pub mod Lacking
 pub mod Kept
 pub mod Mended
 pub mod Parts

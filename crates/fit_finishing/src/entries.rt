@@ -7,7 +7,6 @@ ghost use Rattle.fit_activity.specs.Rides.Fields.{sample_rows};
 ghost use Rattle.fit_activity.specs.Rides.Table.{ValuesFit};
 ghost use Rattle.fit_finishing.specs.Entries.{time_in as time_stated, sample_in as sample_stated, timer_entry, event_entry, entry_in as entry_stated};
 
-use crate::value::value_of;
 use fit_activity::{Entry, FIELDS, SAMPLE_FIELDS, Sample, SampleField};
 use fit_base::BaseType;
 use fit_grammar::Message;
@@ -28,7 +27,7 @@ pub(crate) fn entry_in(message: &Message) -> Option<Entry>
 fn time_in(message: &Message) -> u32
     ensures { result ≡ time_stated message.now.message }
 {
-    value_of(message, 253, BaseType::Uint32).unwrap_or(u32::MAX)
+    message.value_of(253, BaseType::Uint32).unwrap_or(u32::MAX)
 }
 
 // The sample of a record.
@@ -65,17 +64,17 @@ fn value_at(message: &Message, row: &SampleField) -> Option<u32>
     ensures value { result ≡ value_stated row.now.1 row.now.0 message.now.message }
     ensures fits { IfSome result (λ n. n < 256 ^ (row_of row.now.1).size) }
 {
-    value_of(message, row.0, row.1)
+    message.value_of(row.0, row.1)
 }
 
 // The entry of an event, if it is one of the timer.
 fn event_in(message: &Message) -> Option<Entry>
     ensures { result ≡ event_entry message.now.message }
 {
-    if value_of(message, 0, BaseType::Enum)? != 0 {
+    if message.value_of(0, BaseType::Enum)? != 0 {
         return None;
     }
-    timer_entry_of(time_in(message), value_of(message, 1, BaseType::Enum)?)
+    timer_entry_of(time_in(message), message.value_of(1, BaseType::Enum)?)
 }
 
 // The entry of an event of the timer at this time, of this type.

@@ -2,23 +2,32 @@
 
 ghost use Rattle.std.specs.Prelude.{◌≡◌};
 ghost use Rattle.fit_grammar.specs.Format.Message.{messages_of};
-ghost use Rattle.fit_finishing.specs.Heard.{sport_heard, sport_value, sport_numbered};
+ghost use Rattle.fit_finishing.specs.Heard.{first_sport, sport_heard, sport_value, sport_numbered};
 
-use crate::value::value_of;
 use fit_activity::Sport;
 use fit_base::BaseType;
 use fit_grammar::{LentFile, Message};
 
-// The first sport that a sport message or a session states, else generic.
-pub(crate) fn sport_in(file: &LentFile<'_>) -> Sport
-    ensures { result ≡ sport_heard (messages_of file.now.items) }
+/// The number of the first sport that a sport message or a session states.
+pub fn first_sport(file: &LentFile<'_>) -> Option<u32>
+    ensures { result ≡ first_sport (messages_of file.now.items) }
 {
     for message in file.messages() {
         if let Some(number) = sport_value_of(&message) {
-            return sport_of(number);
+            return Some(number);
         }
     }
-    Sport::Generic
+    None
+}
+
+// The first sport that a file states, else generic.
+pub(crate) fn sport_in(file: &LentFile<'_>) -> Sport
+    ensures { result ≡ sport_heard (messages_of file.now.items) }
+{
+    match first_sport(file) {
+        Some(number) => sport_of(number),
+        None => Sport::Generic,
+    }
 }
 
 // The number of the sport that a message states.
@@ -26,8 +35,8 @@ fn sport_value_of(message: &Message) -> Option<u32>
     ensures { result ≡ sport_value message.now.message }
 {
     match message.global() {
-        12 => value_of(message, 0, BaseType::Enum),
-        18 => value_of(message, 5, BaseType::Enum),
+        12 => message.value_of(0, BaseType::Enum),
+        18 => message.value_of(5, BaseType::Enum),
         _ => None,
     }
 }

@@ -5,7 +5,7 @@ mod developer;
 mod files;
 mod fronts;
 mod items;
-mod pieces;
+pub mod pieces;
 mod places;
 mod plain;
 mod sizes;

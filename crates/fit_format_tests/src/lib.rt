@@ -1,5 +1,5 @@
-//! Tests of the base types, the grammar and the text of files, by the public calls of their crates. They are in a crate above those,
-//! so that no library is proved again with its tests.
+//! Tests of the base types, the grammar, the moved times and the text of files, by the public calls of their crates. They are in a crate
+//! above those, so that no library is proved again with its tests.
 #![tactic(auto)]
 
 #[cfg(test)]
@@ -12,6 +12,8 @@ mod equality;
 mod grammar;
 #[cfg(test)]
 mod known_files;
+#[cfg(test)]
+mod shifting;
 #[cfg(test)]
 mod slow;
 #[cfg(test)]

@@ -11,3 +11,4 @@ pub mod PlainForm
 mod StatedTime
 pub mod OneValue
 pub mod Counted
+pub mod ChangedContent

@@ -1,34 +1,38 @@
--- The time in the values of a field of base type 0x86, and that there is none in less than four bytes: for `time_in` and `time`.
-use Rattle.std.proofs.Common.{◌≡◌, ◌≢◌, ◌<◌, ℕ, zero, suc, ◌/◌, ◌%◌, List, [], ◌∷◌, length, take, drop, None, refl, ap, ◌∙◌, inl, inr, arith}
+-- The time that a field states is its value as an uint32, and less than four bytes state none: for `time_by` and `time`.
+use Rattle.std.proofs.Common.{◌≡◌, ◌≢◌, ◌<◌, ℕ, List, [], ◌∷◌, length, take, drop, Option, None, Some, ◌==◌, if◌then◌else◌, refl, ap, ◌∙◌, inl, inr, arith}
+use Rattle.std.specs.Prelude.{option_and_then}
 use Rattle.std.proofs.lemmas.List.{length-take, length-drop}
 use Rattle.std.proofs.lemmas.Bool.Decides.{eqb_tells}
+use Rattle.fit_base.specs.declared.base.BaseType.TheVariants.{Uint32}
 use Rattle.fit_base.specs.declared.order.Arch.{Arch}
-use Rattle.fit_base.specs.Value.{Field, Numbers, numbers, values_of}
+use Rattle.fit_base.specs.Value.{Field, Values, Numbers, Raw, values_of}
 use Rattle.fit_grammar.specs.declared.definition.FieldDefinition.{FieldDefinition}
+use Rattle.fit_grammar.specs.Format.OneValue.{one_of, value_in}
 use Rattle.fit_grammar.specs.Format.Message.{MessageField, fields_of, time_in, stated_by, time_stated}
+use Rattle.fit_grammar.proofs.OneValue.{none-of-type}
 
-not_one : (arch : Arch) (bytes : List ℕ) (count : ℕ) → count ≢ 1 → time_in (Numbers (numbers arch 4 count bytes)) ≡ None
-not_one arch bytes zero other = refl
-not_one arch bytes (suc zero) other = absurd (other refl)
-not_one arch bytes (suc (suc count)) other = refl
+abbrev valid : ℕ → Option ℕ
+valid time = if time == 0xFFFFFFFF then None else Some time
 
-abbrev field : Arch → List ℕ → Field
-field arch bytes = record { base = 0x86; arch = arch; bytes = bytes }
+by_one : (values : Values) → time_in values ≡ option_and_then valid (one_of values)
+by_one (Numbers []) = refl
+by_one (Numbers (time ∷ [])) = refl
+by_one (Numbers (time ∷ other ∷ times)) = refl
+by_one (Raw bytes) = refl
 
-no_time_by : (arch : Arch) (bytes : List ℕ) → length bytes ≢ 4 → time_in (values_of (field arch bytes)) ≡ None
-no_time_by arch bytes other =
-    elim (eqb_tells (length bytes % 4) 0) [
-      | inl whole ↦
-          let one : length bytes / 4 ≢ 1 = λ e. other (omega (arith, whole.1, e)) in
-          rw whole.0 (not_one arch bytes (length bytes / 4) one)
-      | inr broken ↦ rw broken.0 refl
+pub stated_value : (f : MessageField) → f.number ≡ 253 → value_in Uint32 f ≡ stated_by f
+stated_value f numbered =
+    elim (eqb_tells f.number 253) [
+      | inl is ↦
+          elim (eqb_tells f.base 0x86) [
+            | inl based ↦ rw (is.0, based.0, by_one f.values) refl
+            | inr other ↦ rw (is.0, other.0) refl
+          ]
+      | inr other ↦ absurd (other.1 numbered)
     ]
 
-pub no_time : (v : Field) → v.base ≡ 0x86 → length v.bytes ≢ 4 → time_in (values_of v) ≡ None
-no_time v base other =
-    let as_field : (b : ℕ) → Field = λ b. record { base = b; arch = v.arch; bytes = v.bytes } in
-    let e : values_of (as_field v.base) ≡ values_of (as_field 0x86) = ap (λ (b : ℕ). values_of (as_field b)) base in
-    ap time_in e ∙ no_time_by v.arch v.bytes other
+no_time : (v : Field) → v.base ≡ 0x86 → length v.bytes ≢ 4 → time_in (values_of v) ≡ None
+no_time v base other = by_one (values_of v) ∙ ap (option_and_then valid) (none-of-type Uint32 v base other)
 
 not_stated : (f : MessageField) → (f.base ≡ 0x86 → time_in f.values ≡ None) → stated_by f ≡ None
 not_stated f no_value =

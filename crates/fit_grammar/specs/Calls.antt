@@ -19,3 +19,4 @@ pub mod Framed
 pub mod Output
 pub mod FaultCode
 pub mod FaultName
+pub mod ChangedContent

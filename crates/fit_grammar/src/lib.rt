@@ -22,6 +22,9 @@
 //! (The test `the_example_of_the_crate` of `fit_format_tests`.) The contracts use the definitions in `specs/`: `Format` has the
 //! FIT format itself, `Calls` what public contracts use beside it, and `Private` what only proofs need. `laws` has what
 //! follows from the definitions alone.
+//!
+//! Proved: `decode_file` and a `Decoder` take exactly the files of the format and refuse any other bytes with the first fault; what is
+//! read, encoded again, is the same bytes; a message is read under the definition in force. Trusted is the kit alone.
 #![tactic(auto)]
 
 mod definition;

@@ -14,9 +14,10 @@ use crate::definition::DefinitionMessage;
 use crate::item::{DataMessage, Item};
 pub use developer::{DeveloperField, DeveloperFields};
 pub use fields::{Field, Fields};
+use fit_base::BaseType;
 pub use row::Messages;
 use std::marker::Model;
-use time::{compressed_time, stated_time};
+use time::compressed_time;
 
 /// A message, borrowed from its data message. Contracts see what it encodes, whatever its architecture and header are, and the
 /// time of its compressed timestamp.
@@ -44,9 +45,11 @@ impl<'a> Model for Message<'a> {
 }
 
 impl<'a> Message<'a> {
-    ghost use Rattle.std.specs.Prelude.{◌<◌, ℕ, Some};
+    ghost use Rattle.std.specs.Prelude.{◌<◌, ◌^◌, ℕ, Some, IfSome};
+    ghost use Rattle.fit_base.specs.Base.{row_of};
     ghost use Rattle.fit_grammar.specs.Calls.LentMessage.{lent_time};
     ghost use Rattle.fit_grammar.specs.Format.Message.{time_stated};
+    ghost use Rattle.fit_grammar.specs.Format.OneValue.{value_of};
 
     /// The global message number, as the profile numbers messages.
     pub fn global(&self) -> u16
@@ -65,6 +68,20 @@ impl<'a> Message<'a> {
         };
         let definition = &self.definition;
         Fields::new(time, definition.arch(), definition.fields(), self.content)
+    }
+
+    /// The value of the first field of this number, if it has this type, whose values have at most four bytes, and is one valid value.
+    pub fn value_of(&self, number: u8, base: BaseType) -> Option<u32>
+        requires { (row_of base).size ≤ 4 }
+        ensures value { result ≡ value_of base number self.now.message }
+        ensures fits { IfSome result (λ value. value < 256 ^ (row_of base).size) }
+    {
+        for field in self.fields() {
+            if field.number == number {
+                return field.value_as(base);
+            }
+        }
+        None
     }
 
     /// The developer fields in order. They come after the fields.
@@ -90,7 +107,7 @@ impl<'a> Message<'a> {
         if self.content.len() < 4 {
             return None;
         }
-        stated_time(self.fields())
+        self.fields().stated_time()
     }
 }
 

@@ -1,3 +1,4 @@
+pub mod Commands
 pub mod Rides
 pub mod Simulation
 pub mod Histories

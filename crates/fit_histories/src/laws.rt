@@ -1,7 +1,7 @@
 //! Laws of the definitions in `specs/`. Each is the contract of a function that does nothing.
 
 ghost use Rattle.std.specs.Prelude.{Bool, List, ℕ};
-ghost use Rattle.fit_scripts.specs.declared.event.Event.{Event};
+ghost use Rattle.fit_histories.specs.declared.event.Event.{Event};
 ghost use Rattle.fit_histories.specs.Histories.Plain.{RidesGoWell};
 ghost use Rattle.fit_histories.specs.Histories.Runs.{IsHistory};
 ghost use Rattle.fit_histories.specs.Histories.Table.{Outcome};

@@ -1,7 +1,7 @@
 // A recording over its disk, with a recorder that runs or without one.
 
 ghost use Rattle.std.specs.Prelude.{Bool, ◌≡◌, ◌≢◌, ◌↔◌, ◌++◌, ◌∷◌, [], false, IsTrue};
-ghost use Rattle.fit_scripts.specs.declared.command.Command.TheVariants as commands;
+ghost use Rattle.fit_histories.specs.declared.command.Command.TheVariants as commands;
 
 use crate::reply::Reply;
 use fit_activity::{Entry, Start};
@@ -55,6 +55,8 @@ impl<D: Disk> Ride<D> {
         ensures riding { is_riding result.0 ≡ is_ok result.1 }
         ensures goes { IsTrue D.honest
             → TakesStep D.honest D.story (commands.Start start) result.1 self result.0 }
+        // A crash at any moment leaves what could be left before or, if nothing was recorded, the start alone.
+        ensures any_moment { LeavesAtMoments D.honest D.story (commands.Start start) self result.0 }
         ensures form { RideBeginsForm D.honest D.story checked (commands.Start start) result.1 self
             result.0 }
         ensures never_full { StaysNeverFull D.honest D.story self result.1 result.0 }
@@ -155,6 +157,7 @@ impl<D: Disk> Ride<D> {
         ensures disk { disk_in result.0 ≡ disk_in self }
         ensures step { IsTrue D.honest → (before : History) → StandsIn D.honest D.story self before
             → TakesStepFrom D.honest D.story before commands.Restart result.1 result.0 }
+        ensures any_moment { LeavesAtMoments D.honest D.story commands.Restart self result.0 }
         ensures form { (checked : Bool) → RideBeginsForm D.honest D.story checked commands.Restart
             result.1 self result.0 }
         ensures never_full { StaysNeverFull D.honest D.story self result.1 result.0 }
@@ -168,6 +171,8 @@ impl<D: Disk> Ride<D> {
         ensures ended { is_riding result.0 ≡ false }
         ensures goes { IsTrue D.honest
             → TakesStep D.honest D.story commands.Recover result.1 self result.0 }
+        // A crash at any moment leaves what could be left before, or files that stand for the same list.
+        ensures any_moment { LeavesAtMoments D.honest D.story commands.Recover self result.0 }
         ensures form { (checked : Bool) → RideBeginsForm D.honest D.story checked commands.Recover
             result.1 self result.0 }
         ensures never_full { StaysNeverFull D.honest D.story self result.1 result.0 }
@@ -188,6 +193,7 @@ impl<D: Disk> Ride<D> {
         ensures riding { is_riding result.0 ≡ is_ok result.1 }
         ensures goes { IsTrue D.honest
             → TakesStep D.honest D.story commands.Reopen result.1 self result.0 }
+        ensures any_moment { LeavesAtMoments D.honest D.story commands.Reopen self result.0 }
         ensures form { (checked : Bool) → RideBeginsForm D.honest D.story checked commands.Reopen
             result.1 self result.0 }
         ensures never_full { StaysNeverFull D.honest D.story self result.1 result.0 }
@@ -205,6 +211,8 @@ impl<D: Disk> Ride<D> {
         ensures ended { is_riding result.0 ≡ false }
         ensures goes { IsTrue D.honest
             → TakesStep D.honest D.story commands.Erase result.1 self result.0 }
+        // A crash at any moment leaves what could be left before, or nothing recorded.
+        ensures any_moment { LeavesAtMoments D.honest D.story commands.Erase self result.0 }
         ensures never_full { StaysNeverFull D.honest D.story self result.1 result.0 }
         ensures called { Called D.log commands.Erase result.1 self result.0 }
     {

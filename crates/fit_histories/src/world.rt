@@ -2,7 +2,7 @@
 
 ghost use Rattle.std.specs.Prelude.{◌≡◌, [], List, All, map, IfOk, OnOk, false};
 ghost use Rattle.fit_histories.specs.Histories.Runs.{IsHistory, NoneFull, outcome_in};
-ghost use Rattle.fit_scripts.specs.Scripts.Commands.{CanRun};
+ghost use Rattle.fit_histories.specs.Commands.{CanRun};
 ghost use Rattle.fit_histories.specs.Histories.Table.{Outcome};
 ghost use Rattle.fit_histories.specs.Rides.Standing.{reply_in};
 ghost use Rattle.fit_histories.specs.Simulation.Following.{FollowsChoices};
@@ -12,11 +12,11 @@ mod keeping;
 mod simulated;
 mod stepping;
 
+use crate::Event;
 use crate::answer::Answer;
 use crate::reply::Reply;
 use crate::ride::Ride;
 use fit_disk::Memory;
-use fit_scripts::Event;
 use keeping::{Answers, Keeper, Replies};
 use std::alloc::Global;
 use stepping::step;

@@ -2,14 +2,18 @@
 //!
 //! `cut_faults` cuts the bytes of a damaged file into pieces, one after another, into whatever takes them (`TakesPieces`); `skip_faults`
 //! into a vector, with the row of those that are kept. Each of these is a row of whole items under the definitions of the kept pieces
-//! before it and its own, or under those that `known_by` finds in another file. The others are left out. Which bytes are kept is a judgement: `Progress` judges items by their forms,
-//! times and values, `follows` looks ahead, and `after_stray` finds older content. No proof says that a kept piece is no noise.
+//! before it and its own, or under those that `known_by` finds in another file. The others are left out. Which bytes are kept is a
+//! judgement: `Progress` judges items by their forms, times and values, `follows` looks ahead, and `after_stray` finds older content. No
+//! proof says that a kept piece is no noise.
 //!
 //! `split_files` cuts bytes into the files that are chained in them, each of which begins with its header. `find_files` finds the whole
 //! files that stand somewhere in them, as in the image of a card.
 //!
 //! Contracts use the definitions of `specs/`: `Pieces` has what is kept and left out, `Others` other rides in what is left out, `Known`
 //! the definitions of another file, `Chained` where files end, `Found` which files stand in bytes.
+//!
+//! Proved: what is kept are whole items of the file, in order, read under definitions that were kept before them, and every byte is in one
+//! piece. Not proved: that a kept piece is no noise. Trusted is the kit alone.
 #![tactic(auto)]
 
 mod chained;

@@ -5,8 +5,8 @@ use Rattle.fit_disk.specs.Calls.{ReadsAt}
 use Rattle.fit_disk.specs.Counts.{Counts, last_count, no_calls}
 use Rattle.fit_disk.specs.Runs.{MakesAtMost}
 use Rattle.fit_disk.specs.Story.{Story}
-use Rattle.fit_notes.proofs.Numbers.{same_story}
-use Rattle.fit_notes.specs.Numbers.{numbers_of}
+use Rattle.fit_disk.proofs.Numbers.{same_story}
+use Rattle.fit_disk.specs.Numbers.{numbers_of}
 use Rattle.fit_plan.specs.Lent.{lent_counts, lent_since, lent_story, lent_log, bit_of, IsLentWhole}
 use Rattle.fit_plan.specs.Part.{HasFront}
 use Rattle.fit_plan.specs.declared.journal.LentJournal.{LentJournal}

@@ -3,7 +3,7 @@ use Rattle.std.specs.Prelude.{◌≡◌, ℕ, Bool, true, false, ◌∷◌}
 use Rattle.fit_disk.specs.CallSchedule.{counts_of}
 use Rattle.fit_disk.specs.Counts.{Counts, Log, no_calls, no_room, unplanned}
 use Rattle.fit_disk.specs.Story.{Story}
-use Rattle.fit_notes.specs.Numbers.{numbers_of}
+use Rattle.fit_disk.specs.Numbers.{numbers_of}
 use Rattle.fit_plan.specs.declared.journal.LentJournal.{LentJournal}
 
 abbrev pub lent_story : LentJournal → Story

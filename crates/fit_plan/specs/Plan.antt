@@ -3,7 +3,7 @@ use Rattle.std.specs.Prelude.{ℕ, ◌-◌, length}
 use Rattle.fit_disk.specs.CallSchedule.{counts_of}
 use Rattle.fit_disk.specs.Counts.{Counts, Log, Room, no_calls, unplanned}
 use Rattle.fit_disk.specs.Story.{Story}
-use Rattle.fit_notes.specs.Numbers.{numbers_of}
+use Rattle.fit_disk.specs.Numbers.{numbers_of}
 use Rattle.fit_plan.specs.declared.calls.Calls.{Calls}
 use Rattle.fit_plan.specs.declared.plan.Plan.{Plan}
 

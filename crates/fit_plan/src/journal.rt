@@ -9,8 +9,7 @@ ghost use Rattle.fit_disk.specs.Story.{seen_of};
 ghost use Rattle.fit_disk.specs.declared.disk.Which.TheVariants.{Data, Journal};
 ghost use Rattle.fit_plan.specs.Part.{HasFront};
 
-use fit_disk::{CallCounts, DeviceError, Disk, Which, copy_from};
-use fit_notes::{Note, Notes};
+use fit_disk::{CallCounts, DeviceError, Disk, Note, Notes, Which, copy_from};
 
 /// Two files, of which the host lends the first bytes of the journal, and says how long the data file is. It is to be read, and not
 /// to be changed: a change is only noted, and reads after it fail.

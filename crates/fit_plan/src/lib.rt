@@ -7,6 +7,9 @@
 //!
 //! It knows the length of the data file, and no content. So every read fails, and so does the length of the journal. A recovery reads
 //! the journal first, over a `LentJournal`, which plans nothing.
+//!
+//! Proved: the plan is an honest disk, and a host that is cut off inside it leaves what a disk may leave after a power cut. Trusted is that
+//! a host carries out a plan in order and syncs what it says.
 #![tactic(auto)]
 
 mod calls;

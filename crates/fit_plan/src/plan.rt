@@ -9,8 +9,7 @@ ghost use Rattle.fit_disk.specs.declared.disk.Which.TheVariants.{Data};
 ghost use Rattle.fit_plan.specs.Planned.{planned, AreInside};
 
 use crate::calls::Calls;
-use fit_disk::{CallCounts, DeviceError, Disk, Which};
-use fit_notes::{Note, Notes};
+use fit_disk::{CallCounts, DeviceError, Disk, Note, Notes, Which};
 
 // The kinds of calls for a host.
 const WRITE: u8 = 1;

@@ -4,6 +4,9 @@
 //! that a program can have it without the rest: `known_name`, `known_row`, `usual_fields` and `times_of` look it up. The tables (`table`
 //! with `specs/Table`, `known` with `specs/Known`) are made by `make` from python/fitrec/profile.txt, which says where its facts come from.
 //! `parts_of` says how the numbers of a scale are written.
+//!
+//! Proved: each call answers what its table has. Trusted beside the kit is that the table has the facts of the Profile;
+//! `compare/profiles.py` compares it with its source.
 #![tactic(auto)]
 
 mod known;

@@ -8,5 +8,6 @@ pub mod Finished
 pub mod Settled
 pub mod Uncommitted
 pub mod Changed
+pub mod Earlier
 pub mod NothingRecorded
 pub mod NeverFull

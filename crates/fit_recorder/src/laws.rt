@@ -1,13 +1,15 @@
 //! Laws of the definitions in `specs/`. Each is the contract of a function that does nothing.
 
-ghost use Rattle.std.specs.Prelude.{◌≡◌, ◌⊎◌, IsTrue, List, Result, Err};
+ghost use Rattle.std.specs.Prelude.{◌≡◌, ◌⊎◌, ℕ, IsTrue, List, Result, Ok, Err};
 ghost use Rattle.fit_activity.specs.declared.activity.Summary.{Summary};
 ghost use Rattle.fit_activity.specs.Rides.Recording.{Recorded};
 ghost use Rattle.fit_disk.specs.State.{Contents, LeavesOnly};
-ghost use Rattle.fit_disk.specs.Story.{Story};
+ghost use Rattle.fit_disk.specs.Story.{Story, seen_of};
+ghost use Rattle.fit_disk.specs.declared.disk.Which.TheVariants.{Data};
 ghost use Rattle.fit_recorder.specs.Files.NothingRecorded.{IsNothing};
 ghost use Rattle.fit_recorder.specs.Files.Body.{StandsFor};
 ghost use Rattle.fit_recorder.specs.Files.Committed.{HasCounted};
+ghost use Rattle.fit_recorder.specs.Files.Finished.{HaveFinished};
 ghost use Rattle.fit_recorder.specs.Calls.Recorder.{StandsAt, disk_of};
 ghost use Rattle.fit_recorder.specs.Calls.Recovery.{RecoveryAnswers, RecoversList};
 ghost use Rattle.fit_recorder.specs.declared.fault.RecFault.{RecFault};
@@ -22,6 +24,15 @@ pub fn files_stand_for_one_list()
         → StandsFor other contents → list ≡ other }
     ensures not_nothing { (list : List Recorded) (contents : Contents) → StandsFor list contents
         → IsNothing contents → ⊥ }
+{}
+
+/// Two files have at most one finished file. A recovery that answers `Ok` leaves it, so all recoveries leave the same bytes.
+pub fn files_have_one_finished_file()
+    ensures one { (contents : Contents) (bytes others : List ℕ) → HaveFinished contents bytes
+        → HaveFinished contents others → bytes ≡ others }
+    ensures recovered { (contents : Contents) (story : Story) (summary : Summary)
+        → RecoveryAnswers contents story (Ok summary)
+        → HaveFinished contents (seen_of Data story) }
 {}
 
 /// If the files stand for a recording and no device call fails, a recovery answers `Ok` with the finished file of exactly

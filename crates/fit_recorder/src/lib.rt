@@ -16,6 +16,9 @@
 //! This is the test `the_example_of_the_crate` of `fit_ride_tests`. The promises hold over every disk that keeps what it
 //! synced. Their definitions are in `specs/`: `Files` defines what the two files stand for and what a finished file is, `Calls`
 //! what each call answers and what a crash inside it may leave. `laws` has what follows from the definitions alone.
+//!
+//! Proved: what a recovery leaves is the finished file of a prefix of the accepted entries, with all that was committed, whatever failed
+//! and whenever the power went. Trusted beside the kit is that the disk is honest.
 #![tactic(auto)]
 
 mod body;

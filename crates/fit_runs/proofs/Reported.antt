@@ -3,3 +3,5 @@ pub mod Played
 pub mod Replayed
 pub mod Recorded
 pub mod Heard
+pub mod Kept
+pub mod Lost

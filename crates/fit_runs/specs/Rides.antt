@@ -1,6 +1,7 @@
--- What events leave of the disk of a ride, lines that come one by one, and when a recording commits by itself.
+-- What events leave of the disk of a ride, lines that come one by one, when a recording commits by itself, and what a power cut may lose.
 pub mod Played
 pub mod Dues
 pub mod Heard
 pub mod Turns
 pub mod Listening
+pub mod Lost

@@ -15,10 +15,14 @@
 //!
 //! (The test `the_example_of_the_crate` of `fit_runs_tests`.)
 //!
-//! Contracts use the definitions of `specs/`. `Rides` has what events leave of the disk, and when a recording commits by itself. `Printed`
-//! has the lines of the replies.
+//! Contracts use the definitions of `specs/`. `Rides` has what events leave of the disk, when a recording commits by itself, and what a
+//! power cut may lose then (`Lost`). `Printed` has the lines of the replies.
+//!
+//! Proved: each line that is printed is the reply to its event, and over an honest disk what a power cut leaves at each moment of the run
+//! is as a history of these replies allows. Trusted beside the kit is that the disk is honest.
 #![tactic(auto)]
 
+pub mod laws;
 mod playing;
 mod recording;
 mod reply_line;

@@ -9,8 +9,7 @@ ghost use Rattle.fit_runs.specs.Rides.Played.{LeavesAfter, BreaksOff};
 use crate::reply_line::ReplyLine;
 use fit_disk::Disk;
 use fit_files::{ReportFault, print};
-use fit_histories::Ride;
-use fit_scripts::Event;
+use fit_histories::{Event, Ride};
 use fit_text::Pen;
 use std::io::Write;
 

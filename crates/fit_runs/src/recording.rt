@@ -22,9 +22,9 @@ const MOST_READS: u64 = 1_099_511_627_776;
 
 /// Reads lines of a script from an input, does what each states over a disk, and prints the answer, before it reads the next. A line
 /// that cannot be done is answered with its fault. After the last line what was handed in is committed if a recorder runs. With
-/// `every`, it commits by itself after an entry that comes so many seconds after the last commit. A start begins a journal with
-/// checksums. Returns the disk and the number of
-/// answers that were not ok. If the output fails, the command whose answer it refused was done, and none after it.
+/// `every`, it commits by itself after an entry that comes so many seconds after the last commit, so that a power cut takes at most the
+/// last so many seconds (`laws::at_most_the_last_seconds_are_lost`). A start begins a journal with checksums. Returns the disk and the
+/// number of answers that were not ok. If the output fails, the command whose answer it refused was done, and none after it.
 pub fn record<D: Disk, T: Read, O: Write>(
     alloc: Global,
     disk: D,

@@ -1,8 +1,7 @@
 // The line of a reply.
 
 use fit_files::SummaryLine;
-use fit_histories::Reply;
-use fit_scripts::Event;
+use fit_histories::{Event, Reply};
 use std::fmt::{self, Formatter, Write};
 
 /// An event and its reply, printed as the number of the event's line, its word, and the reply.

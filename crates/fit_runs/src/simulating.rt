@@ -8,9 +8,9 @@ ghost use Rattle.fit_runs.specs.Printed.Simulation.{Simulates};
 
 use crate::reply_line::ReplyLine;
 use fit_files::{ReportFault, flush, put_line};
-use fit_histories::Reply;
 use fit_histories::world::run_for_replies;
-use fit_scripts::{Event, ScriptFault, parse_script};
+use fit_histories::{Event, Reply};
+use fit_scripts::{ScriptFault, parse_script};
 use fit_text::Pen;
 use std::alloc::Global;
 use std::io::Write;

@@ -6,9 +6,8 @@ ghost use Rattle.fit_recorder.specs.Calls.Recorder.{GoesOn};
 
 use fit_activity::{Entry, Start};
 use fit_disk::{Memory, Which};
-use fit_histories::Answer;
+use fit_histories::{Answer, Command, Event};
 use fit_recorder::{RecFault, Recorder, erase, recover, resume};
-use fit_scripts::{Command, Event};
 use std::alloc::{AllocError, Global};
 use std::test::Fail;
 

@@ -3,9 +3,8 @@
 use crate::failing::Failing;
 use crate::output::ONE_MESSAGE;
 use crate::reading::Pieces;
-use fit_exports::{ExportForm, export_input, table_input};
-use fit_files::ReportFault;
-use fit_table::Layout;
+use fit_files::{ExportForm, ReportFault, export_input, table_input};
+use fit_table::{DeveloperColumns, Layout};
 use std::alloc::Global;
 
 const TABLE: &[u8] = b"type,time_created_s\r\n4,1000000000\r\n";
@@ -37,7 +36,7 @@ fn a_table_that_is_not_flushed_is_reported(rt: HostRuntime) {
         raw: false,
         utc: false,
         profile: false,
-        developer: false,
+        developer: DeveloperColumns::Without,
     };
     for (flushes, reported) in [(0, Err(ReportFault::Output)), (1, Ok(()))] {
         let mut out = failing_after(rt.alloc(), flushes);

@@ -1,4 +1,4 @@
-//! Tests of what becomes of bytes and of scripts, by the public calls of `fit_files`, `fit_exports`, `fit_scripts`, `fit_histories`,
+//! Tests of what becomes of bytes and of scripts, by the public calls of `fit_files`, `fit_recordings`, `fit_scripts`, `fit_histories`,
 //! `fit_runs` and of the libraries below them. They are in a crate above them, so that no library is proved again with its tests.
 #![tactic(auto)]
 

@@ -2,9 +2,10 @@
 
 use crate::equality::equal;
 use fit_disk::{Memory, Which};
-use fit_files::{SaveFault, plain_input, repair, save_ride};
+use fit_files::plain_input;
 use fit_grammar::encode_file;
 use fit_recorder::RecFault;
+use fit_recordings::{SaveFault, repair, save_ride};
 use fit_runs::play;
 use fit_scripts::read_script;
 use std::alloc::Global;

@@ -2,10 +2,11 @@
 
 use crate::equality::equal;
 use fit_activity::{Entry, Sample, Sport, Start};
+use fit_histories::{Command, Event};
 use fit_scripts::ScriptFaultKind::{
     BadNumber, ExtraWord, MissingWord, RepeatedKey, UnknownKey, UnknownWord,
 };
-use fit_scripts::{Command, Event, ScriptFault, ScriptFaultKind, parse_script};
+use fit_scripts::{ScriptFault, ScriptFaultKind, parse_script};
 use std::alloc::Global;
 use std::process::Abort;
 

@@ -5,9 +5,8 @@ pub mod list;
 pub mod outcome_kind;
 
 use fit_activity::{Entry, Refusal, Start, Summary};
-use fit_histories::Answer;
+use fit_histories::{Answer, Command, Event};
 use fit_recorder::RecFault;
-use fit_scripts::{Command, Event};
 use list::{Recorded, has_stopped, refusal_of, start_fits, sums_of};
 use outcome_kind::{outcome_by, outcome_of};
 use std::alloc::{AllocError, Global};

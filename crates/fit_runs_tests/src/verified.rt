@@ -3,8 +3,8 @@
 use crate::equality::equal;
 use fit_base::Crc;
 use fit_disk::{Files, Shadow};
-use fit_files::{FileSums, RepairFault, repair, repair_and_read};
 use fit_recorder::RecFault;
+use fit_recordings::{FileSums, RepairFault, repair, repair_and_read};
 use fit_runs::play;
 use fit_scripts::read_script;
 use std::fs;

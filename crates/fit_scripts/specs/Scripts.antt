@@ -1,5 +1,4 @@
--- Scripts: commands, lines, which of them can be replayed, the numbers and names of faults, and choice bytes as a word.
-pub mod Commands
+-- Scripts: lines and the command of each, which of them can be replayed, the numbers and names of faults, and choice bytes as a word.
 pub mod Words
 pub mod Sample
 pub mod Script

@@ -1,11 +1,12 @@
 -- Columns of developer fields: for `named`.
-use Rattle.std.proofs.Common.{set, ◌≡◌, ◌≢◌, ℕ, suc, ◌+◌, ◌-◌, ◌≤◌, ◌<◌, Bool, true, false, List, [], ◌∷◌, ◌++◌, length, get_or, take, drop, map, sum_by, codes, refl, sym, ap, ap₂, ◌∙◌, inl, inr, ◌==◌, nat_lt, Option, Some, None, Bor, arith, rules}
+use Rattle.std.proofs.Common.{set, ◌≡◌, ◌≢◌, ℕ, zero, suc, ◌+◌, ◌-◌, ◌≤◌, ◌<◌, Bool, true, false, List, [], ◌∷◌, ◌++◌, length, get_or, take, drop, map, sum_by, codes, refl, sym, ap, ap₂, ◌∙◌, inl, inr, ◌==◌, nat_lt, Option, Some, None, Bor, arith, rules}
 use Rattle.std.specs.Prelude.{bytes_eq, option_map}
 use Rattle.std.proofs.lemmas.Bool.{eqb-true, cases_lt}
 use Rattle.std.proofs.lemmas.List.{take_all, drop-drop, get_or-set_other}
 use Rattle.std.proofs.lemmas.List.Sums.{sum_by-cons}
 use Rattle.fit_base.specs.declared.order.Arch.{Arch}
-use Rattle.fit_base.specs.Value.{Numbers}
+use Rattle.fit_base.specs.Base.{base_type}
+use Rattle.fit_base.specs.Value.{Numbers, values_of}
 use Rattle.fit_grammar.specs.declared.definition.Definition.{Definition}
 use Rattle.fit_grammar.specs.declared.definition.DeveloperFieldDefinition.{DeveloperFieldDefinition}
 use Rattle.fit_grammar.specs.Format.Item.{Defines, content_size, fields_size}
@@ -16,11 +17,14 @@ use Rattle.fit_table.specs.declared.named.NamedCell.{NamedCell}
 use Rattle.fit_table.specs.declared.named.NamedPlan.{NamedPlan}
 use Rattle.fit_table.specs.declared.named.NamedPlans.{NamedPlans}
 use Rattle.fit_table.specs.declared.unit.Unit.TheVariants.{Whole}
+use Rattle.fit_table.specs.Cells.{field_tokens}
 use Rattle.fit_table.specs.Described.{Description, described_in}
 use Rattle.fit_table.specs.Lookup.{AreAscending, at}
-use Rattle.fit_table.specs.Named.{ReadField, cells_by, named_cells, read_by, read_cell, read_in, told_in}
-use Rattle.fit_table.specs.NamedPlans.{AreCellsFor, AreNamedCells, AreNamedFor, AreNamedIn, ArePassed, IsNamedCell, told_by, tokens_of}
+use Rattle.fit_table.specs.Named.{ReadField, cells_by, named_cells, read_by, read_cell, read_in, told_in, unit_if}
+use Rattle.fit_table.specs.NamedPlans.{AreCellsFor, AreNamedCells, AreNamedFor, AreNamedIn, ArePassed, IsNamedCell, IsShownCell, after_gap, read_at, spread, told_by, tokens_of}
 use Rattle.fit_table.specs.Tokens.{Token, Text}
+use Rattle.fit_table.proofs.CellLemmas.{no_bytes}
+use Rattle.fit_table.proofs.CommaLemmas.{gap_tokens}
 
 -- ---- lists of which each element is seen by its view
 
@@ -131,11 +135,77 @@ pub read_no_told : (told : List (Option Description)) (name : List ℕ) (fields 
     read_in told name fields ≡ nothing
 read_no_told told name fields is = rw is refl
 
+-- ---- cells without bytes
+
+abbrev pub empty_cell : NamedCell
+empty_cell = record { at = 0; unit = Whole; size = 0; base = 0; gap = 0 }
+
+read_nothing : (raw : Bool) (cell : NamedCell) (arch : Arch) (content : List ℕ) → cell.size ≡ 0 →
+    read_cell raw (read_at cell arch content) ≡ Text [] ∷ []
+read_nothing raw cell arch content none =
+    ap (λ n. field_tokens [] (unit_if raw cell.unit) (base_type cell.base)
+    (values_of (record { base = cell.base; arch = arch; bytes = take n (drop cell.at content) }))) none
+    ∙ sym (no_bytes [] (unit_if raw cell.unit) cell.base arch)
+
+pub shown : (told : List (Option Description)) (fields : List DeveloperFieldDefinition) (start : ℕ) (name : List ℕ) (cell : NamedCell) →
+    IsNamedCell told fields start name cell → IsShownCell told fields start name cell
+shown told fields start name cell h = record {
+  inside = h.inside;
+  shows = λ raw arch content. ap (read_cell raw) (h.holds arch content);
+}
+
+pub shown_empty : (told : List (Option Description)) (fields : List DeveloperFieldDefinition) (start : ℕ) (name : List ℕ) (cell : NamedCell) →
+    cell.size ≡ 0 → IsNamedCell told fields start name cell → IsShownCell told fields start name empty_cell
+shown_empty told fields start name cell none h = record {
+  inside = omega arith;
+  shows = λ raw arch content.
+      ap (read_cell raw) (h.holds arch content) ∙ read_nothing raw cell arch content none ∙ sym (read_nothing raw empty_cell arch content refl);
+}
+
+gap_append : (n : ℕ) (cells more : List NamedCell) → after_gap n (cells ++ more) ≡ after_gap n cells ++ more
+gap_append zero cells more = refl
+gap_append (suc n) cells more = ap (λ cells. empty_cell ∷ cells) (gap_append n cells more)
+
+gap_end : (n : ℕ) → after_gap (suc n) [] ≡ after_gap n [] ++ empty_cell ∷ []
+gap_end zero = refl
+gap_end (suc n) = ap (λ cells. empty_cell ∷ cells) (gap_end n)
+
+-- one more without bytes
+pub spread_empty : (cells : List NamedCell) (n : ℕ) → spread cells (n + 1) ≡ spread cells n ++ empty_cell ∷ []
+spread_empty [] n = let one : n + 1 ≡ suc n = omega arith in rw one (gap_end n)
+spread_empty (cell ∷ cells) n =
+    ap (λ cells. after_gap cell.gap (cell ∷ cells)) (spread_empty cells n) ∙ gap_append cell.gap (cell ∷ spread cells n) (empty_cell ∷ [])
+
+-- one more with bytes
+pub spread_more : (cells : List NamedCell) (n : ℕ) (cell : NamedCell) → cell.gap ≡ n → spread (cells ++ cell ∷ []) 0 ≡ spread cells n ++ cell ∷ []
+spread_more [] n cell is = gap_append cell.gap [] (cell ∷ []) ∙ ap (λ gap. after_gap gap [] ++ cell ∷ []) is
+spread_more (c ∷ cells) n cell is =
+    ap (λ cells. after_gap c.gap (c ∷ cells)) (spread_more cells n cell is) ∙ gap_append c.gap (c ∷ spread cells n) (cell ∷ [])
+
+gap_length : (n : ℕ) (cells : List NamedCell) → length (after_gap n cells) ≡ n + length cells
+gap_length zero cells = omega arith
+gap_length (suc n) cells = omega (arith, gap_length n cells)
+
+pub spread_length : (cells : List NamedCell) (n : ℕ) → length cells + n ≤ length (spread cells n)
+spread_length [] n = omega (arith, gap_length n [])
+spread_length (cell ∷ cells) n = omega (arith, gap_length cell.gap (cell ∷ spread cells n), spread_length cells n)
+
+pub gap_in : (size n : ℕ) (cells : List NamedCell) → AreNamedIn size (after_gap n cells) → AreNamedIn size cells
+gap_in size zero cells h = h
+gap_in size (suc n) cells h = gap_in size n cells h.1
+
+pub gap_tokens_of : (raw : Bool) (n : ℕ) (cells : List NamedCell) (arch : Arch) (content : List ℕ) →
+    tokens_of raw (after_gap n cells) arch content ≡ gap_tokens n (tokens_of raw cells arch content)
+gap_tokens_of raw zero cells arch content = refl
+gap_tokens_of raw (suc n) cells arch content =
+    ap₂ (λ (cell tokens : List Token). Text (codes ",") ∷ (cell ++ tokens)) (read_nothing raw empty_cell arch content refl)
+    (gap_tokens_of raw n cells arch content)
+
 -- ---- the cells of a definition
 
 pub cells_more : (told : List (Option Description)) (fields : List DeveloperFieldDefinition) (start : ℕ) (names : List (List ℕ))
     (cells : List NamedCell) (name : List ℕ) (cell : NamedCell) → AreNamedCells told fields start names cells →
-    IsNamedCell told fields start name cell → AreNamedCells told fields start (names ++ name ∷ []) (cells ++ cell ∷ [])
+    IsShownCell told fields start name cell → AreNamedCells told fields start (names ++ name ∷ []) (cells ++ cell ∷ [])
 cells_more told fields start [] [] name cell h k = (k, tt)
 cells_more told fields start [] (c ∷ cells) name cell h k = absurd h
 cells_more told fields start (n ∷ names) [] name cell h k = absurd h
@@ -169,42 +239,51 @@ tokens_are raw told fields start [] [] arch content h = refl
 tokens_are raw told fields start [] (c ∷ cells) arch content h = absurd h
 tokens_are raw told fields start (n ∷ names) [] arch content h = absurd h
 tokens_are raw told fields start (n ∷ names) (c ∷ cells) arch content h =
-    ap₂ (λ (read : ReadField) (tokens : List Token). Text (codes ",") ∷ (read_cell raw read ++ tokens)) (sym (h.0.holds arch content))
+    ap₂ (λ (cell tokens : List Token). Text (codes ",") ∷ (cell ++ tokens)) (sym (h.0.shows raw arch content))
     (tokens_are raw told fields start names cells arch content h.1)
 
 -- what the cells of a definition show of its messages
 pub record IsNamed (raw : Bool) (known : List Description) (place : ℕ) (names : List (List ℕ)) (d : Definition) (content : List ℕ)
-    (cells : List NamedCell) : Type 0 where
-  pub inside : AreNamedIn (length content) cells
-  pub shows : (time : Option ℕ) → tokens_of raw cells d.arch content
+    (plan : NamedPlan) : Type 0 where
+  pub inside : AreNamedIn (length content) (spread plan.cells.items plan.rest)
+  pub shows : (time : Option ℕ) → tokens_of raw (spread plan.cells.items plan.rest) d.arch content
       ≡ named_cells raw known place names (message_under d time content).developer
 
 pub named : (raw : Bool) (known : List Description) (place : ℕ) (names : List (List ℕ)) (d : Definition) (content : List ℕ)
-    (cells : List NamedCell) → content_size d ≡ length content →
-    AreCellsFor known names place d cells → IsNamed raw known place names d content cells
-named raw known place names d content cells whole h = record {
-  inside = cells_in (told_by known place d.developer.items) d.developer.items (fields_size d) names cells (length content) (omega (arith, whole)) h;
+    (plan : NamedPlan) → content_size d ≡ length content →
+    AreCellsFor known names place d plan → IsNamed raw known place names d content plan
+named raw known place names d content plan whole h = record {
+  inside = cells_in (told_by known place d.developer.items) d.developer.items (fields_size d) names (spread plan.cells.items plan.rest) (length content)
+      (omega (arith, whole)) h;
   shows = λ time.
-      tokens_are raw (told_by known place d.developer.items) d.developer.items (fields_size d) names cells d.arch content h
+      tokens_are raw (told_by known place d.developer.items) d.developer.items (fields_size d) names (spread plan.cells.items plan.rest) d.arch content h
       ∙ ap (λ told. cells_by raw told names (developer_of d.arch d.developer.items (drop (fields_size d) content)))
       (sym (told_same known place d.arch d.developer.items (drop (fields_size d) content)));
 }
 
--- what stands for a cell past the end
-abbrev pub any_cell : NamedCell
-any_cell = record { at = 0; unit = Whole; size = 0; base = 0 }
+pub first_spread : (cells : List NamedCell) (rest : ℕ) → 1 ≤ length cells →
+    spread cells rest ≡ after_gap (get_or cells 0 empty_cell).gap (get_or cells 0 empty_cell ∷ spread (others cells) rest)
+first_spread [] rest some = absurd (omega arith)
+first_spread (cell ∷ cells) rest some =
+    let left : others (cell ∷ cells) ≡ cells = take_all _ cells (omega arith) in rw left refl
 
-pub first_cells : (raw : Bool) (cells : List NamedCell) (arch : Arch) (content : List ℕ) → 1 ≤ length cells →
-    tokens_of raw cells arch content ≡ tokens_of raw (get_or cells 0 any_cell ∷ others cells) arch content
-first_cells raw [] arch content some = absurd (omega arith)
-first_cells raw (cell ∷ cells) arch content some =
-    let rest : others (cell ∷ cells) ≡ cells = take_all _ cells (omega arith) in rw rest refl
+pub no_spread : (cells : List NamedCell) (rest : ℕ) → length cells < 1 → spread cells rest ≡ after_gap rest []
+no_spread [] rest none = refl
+no_spread (cell ∷ cells) rest none = absurd (omega arith)
 
-pub first_named_in : (size : ℕ) (cells : List NamedCell) → 1 ≤ length cells → AreNamedIn size cells →
-    AreNamedIn size (get_or cells 0 any_cell ∷ others cells)
-first_named_in size [] some h = absurd (omega arith)
-first_named_in size (cell ∷ cells) some h =
-    let rest : others (cell ∷ cells) ≡ cells = take_all _ cells (omega arith) in rw rest h
+-- what is written of the first cell and of those before it
+pub first_tokens : (raw : Bool) (cells : List NamedCell) (rest : ℕ) (arch : Arch) (content : List ℕ) → 1 ≤ length cells →
+    tokens_of raw (spread cells rest) arch content
+    ≡ gap_tokens (get_or cells 0 empty_cell).gap (Text (codes ",") ∷ (read_cell raw (read_at (get_or cells 0 empty_cell) arch content)
+    ++ tokens_of raw (spread (others cells) rest) arch content))
+first_tokens raw cells rest arch content some =
+    ap (λ cells. tokens_of raw cells arch content) (first_spread cells rest some)
+    ∙ gap_tokens_of raw (get_or cells 0 empty_cell).gap (get_or cells 0 empty_cell ∷ spread (others cells) rest) arch content
+
+pub first_named_in : (size : ℕ) (cells : List NamedCell) (rest : ℕ) → 1 ≤ length cells → AreNamedIn size (spread cells rest) →
+    AreNamedIn size (get_or cells 0 empty_cell ∷ spread (others cells) rest)
+first_named_in size cells rest some h =
+    gap_in size (get_or cells 0 empty_cell).gap (get_or cells 0 empty_cell ∷ spread (others cells) rest) (rw (first_spread cells rest some) at h)
 
 -- ---- from one message to the next
 
@@ -279,7 +358,7 @@ named_on known names place definition_for plans rises other h =
 
 pub named_set : (known : List Description) (names : List (List ℕ)) (place : ℕ) (definition_for : ℕ → Option Definition) (own : ℕ) (d : Definition)
     (plans : NamedPlans) (made : NamedPlan) (k : ℕ) → k ≡ own → definition_for own ≡ Some d →
-    AreCellsFor known names place d made.cells.items →
+    AreCellsFor known names place d made →
     AreNamedFor known names place definition_for plans →
     AreNamedFor known names place definition_for (record plans { slots = set plans.slots k (Some made) })
 named_set known names place definition_for own d plans made k is found good h = record {

@@ -1,5 +1,5 @@
 -- A file as JSON in the names and the units of the Profile. Each field is named and written as its column in a table is.
-use Rattle.std.specs.Prelude.{◌≡◌, ℕ, ℤ, pos, negsuc, Bool, true, false, List, [], ◌∷◌, ◌++◌, Option, Some, None, IfSome, slice_index_or, codes, option_map, nat_le, ◌==◌, ◌&&◌, if◌then◌else◌}
+use Rattle.std.specs.Prelude.{◌≡◌, ℕ, ℤ, pos, negsuc, Bool, true, false, List, [], ◌∷◌, ◌++◌, length, Option, Some, None, IfSome, slice_index_or, codes, option_map, nat_le, ◌==◌, ◌&&◌, if◌then◌else◌}
 use Rattle.std.specs.Borrow.{Bor}
 use Rattle.fit_base.specs.declared.base.BaseType.{BaseType}
 use Rattle.fit_base.specs.declared.base.BaseType.TheVariants.{Byte}
@@ -97,12 +97,17 @@ field_json utc message field =
     quoted (field_title utc message field) ++ codes ":"
     ++ values_in (field_unit utc message field) (base_type field.base) field.values
 
--- a developer field with the name, the units and the type that its description gives
+-- a text that is no longer than so many bytes; none if it is
+abbrev pub text_within : ℕ → List ℕ → List ℕ
+text_within most text = if nat_le (length text) most then text else []
+
+-- a developer field with the name, the units and the type that its description gives. The Profile has names of at most 64 bytes and units
+-- of 16: longer ones are left out, since they come with each value
 abbrev pub described_json : Description → MessageDeveloperField → List ℕ
 described_json d field =
     developer_key field.index field.number
-    ++ (codes ",\"name\":" ++ (string_json d.name
-    ++ (codes ",\"units\":" ++ (string_json d.units
+    ++ (codes ",\"name\":" ++ (string_json (text_within 64 d.name)
+    ++ (codes ",\"units\":" ++ (string_json (text_within 16 d.units)
     ++ (codes ",\"value\":" ++ (values_in d.unit (base_type d.base)
     (values_of (record { base = d.base; arch = field.arch; bytes = field.bytes }))
     ++ codes "}"))))))

@@ -3,6 +3,7 @@ pub mod Described
 pub mod Lookup
 pub mod Number
 pub mod Cells
+pub mod Commas
 pub mod Named
 pub mod NamedPlans
 pub mod Table

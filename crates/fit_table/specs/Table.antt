@@ -1,5 +1,5 @@
 -- A table: a first line with the names of the columns, and a line for each message.
-use Rattle.std.specs.Prelude.{ℕ, ◌+◌, ℤ, Bool, false, List, [], ◌∷◌, ◌++◌, length, Option, Some, None, option_map, codes, ◌==◌, if◌then◌else◌}
+use Rattle.std.specs.Prelude.{ℕ, ◌+◌, ℤ, Bool, true, false, List, [], ◌∷◌, ◌++◌, length, map, Option, Some, None, option_map, codes, ◌==◌, if◌then◌else◌}
 use Rattle.fit_base.specs.declared.order.Arch.{Arch}
 use Rattle.fit_base.specs.Base.{base_type}
 use Rattle.fit_grammar.specs.Format.Message.{Message, MessageField}
@@ -12,6 +12,8 @@ use Rattle.fit_columns.specs.declared.place.Place.{Place}
 use Rattle.fit_columns.specs.Columns.{cell_in, found_in}
 use Rattle.fit_columns.specs.Places.{cell_with, field_with, place_cell, place_field}
 use Rattle.fit_table.specs.declared.layout.Layout.{Layout}
+use Rattle.fit_table.specs.declared.layout.DeveloperColumns.{DeveloperColumns}
+use Rattle.fit_table.specs.declared.layout.DeveloperColumns.TheVariants.{Without, All, Named}
 use Rattle.fit_table.specs.declared.unit.Unit.{Unit as AnyUnit}
 use Rattle.fit_table.specs.Unit.{unit_in, suffix_in}
 use Rattle.fit_table.specs.Number.{unit_text}
@@ -48,13 +50,25 @@ names_from layout front [] = []
 names_from layout front (number ∷ numbers) =
     front ++ (column_name layout number ++ names_from layout (codes ",") numbers)
 
+-- the columns of developer fields that a layout names
+abbrev pub chosen_names : DeveloperColumns → List (List ℕ)
+chosen_names Without = []
+chosen_names All = []
+chosen_names (Named names) = map (λ name. name.now) names.now.items
+
+-- whether each name that a file gives has a column, in its own table
+abbrev pub takes_all : DeveloperColumns → Bool
+takes_all Without = false
+takes_all All = true
+takes_all (Named names) = false
+
 -- the text `front` begins each line; it is a first cell with its comma, or nothing. The names of developer fields follow
 abbrev pub head_with : Layout → List (List ℕ) → List ℕ → List ℕ
 head_with layout names front =
     front ++ (names_from layout [] layout.fields.now ++ (titles names ++ line_end))
 
 abbrev pub head_of : Layout → List ℕ → List ℕ
-head_of layout front = head_with layout [] front
+head_of layout front = head_with layout (chosen_names layout.developer) front
 
 -- ---- the other lines
 
@@ -93,19 +107,27 @@ lines_by line number place [] = []
 lines_by line number place (m ∷ messages) =
     line_if (m.global == number) (line place m) ++ lines_by line number (place + 1) messages
 
+-- the descriptions of a file, if a name is looked for among them
+abbrev pub known_for : List (List ℕ) → List Message → List Description
+known_for names messages = if length names == 0 then [] else descriptions_of messages
+
+-- the lines of a file, with the developer fields that the layout names as its own descriptions have them
 abbrev pub lines_of : Layout → List ℕ → List Message → List Token
 lines_of layout front messages =
-    lines_by (line_of layout [] [] front) layout.message 0 messages
+    lines_by (line_of layout (known_for (chosen_names layout.developer) messages)
+    (chosen_names layout.developer) front) layout.message 0 messages
 
--- the whole table of a file, given the descriptions of its developer fields
+-- the whole table of a file, with a column for each name that these descriptions have
 abbrev pub table_with : Layout → List Description → List Message → List Token
 table_with layout known messages =
     Text (head_with layout (names_in known) [])
     ∷ lines_by (line_of layout known (names_in known) []) layout.message 0 messages
 
+-- the whole table of a file
 abbrev pub table_of : Layout → List Message → List Token
 table_of layout messages =
-    table_with layout (if layout.developer then descriptions_of messages else []) messages
+    if takes_all layout.developer then table_with layout (descriptions_of messages) messages
+    else Text (head_of layout []) ∷ lines_of layout [] messages
 
 -- ---- the same cells, by the places of the values
 

@@ -1,6 +1,6 @@
 // The cell of a column in the line of a message.
 
-ghost use Rattle.std.specs.Prelude.{◌≡◌, ◌+◌, ◌≤◌, None, length};
+ghost use Rattle.std.specs.Prelude.{◌≡◌, ◌+◌, ◌<◌, ◌≤◌, ◌==◌, false, [], None, length};
 ghost use Rattle.fit_base.specs.Base.{base_type};
 ghost use Rattle.fit_base.specs.Value.{values_of};
 ghost use Rattle.fit_columns.specs.Places.{IsSized, cell_with, place_cell};
@@ -47,6 +47,22 @@ pub fn put_cell<W: Write>(
         }
         None => put_other(pen, layout, units, place, arch, time, content),
     }
+}
+
+/// The least size of a field that has a cell of its own: with fewer bytes it has none, and an empty cell. In a table of one column each has one.
+pub fn least_size(layout: &Layout<'_>) -> u8
+    ensures bound { result ≤ 1 }
+    ensures empty { 1 ≤ result → empty_of layout.now ≡ [] }
+{
+    if empty_of(layout).is_empty() { 1 } else { 0 }
+}
+
+/// Whether a place has a value in some message: the field has bytes, or the time of a compressed timestamp.
+#[inline]
+pub fn has_cell(place: &Place, least: u8) -> bool
+    ensures { result ≡ false → (place.now.size < least) × ((253 == place.now.number) ≡ false) }
+{
+    place.size >= least || TIMESTAMP == place.number
 }
 
 // A cell without a value. In a table of one column it would be an empty line, which many readers skip.

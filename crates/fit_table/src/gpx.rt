@@ -12,7 +12,7 @@ ghost use Rattle.fit_table.specs.Gpx.{fields, value, altitude, dated, between, h
 ghost use Rattle.fit_table.specs.Tokens.{Text};
 
 use crate::lookup::Lookup;
-use crate::named::NamedCell;
+use crate::named::NamedPlan;
 use crate::number::{is_date, put_value};
 use crate::unit::Unit;
 use crate::walk::{Line, put_lines};
@@ -77,7 +77,7 @@ impl Line for Points {
         &self,
         pen: &mut Pen<'_, W>,
         plan: &Plan,
-        _cells: &[NamedCell],
+        _named: &NamedPlan,
         time: Option<u32>,
         found: &DataMessage<'_>,
     ) -> Result<(), WriteFailed> {

@@ -9,10 +9,11 @@ ghost use Rattle.fit_text.specs.Pen.{Puts};
 ghost use Rattle.fit_table.specs.Described.{Description};
 ghost use Rattle.fit_table.specs.Lookup.{AreAscending};
 ghost use Rattle.fit_table.specs.Named.{is_new, names_in, read_cell, titles, unit_if};
-ghost use Rattle.fit_table.specs.NamedPlans.{AreNamedCells, AreNamedFor, AreNamedIn, IsNamedCell, read_at, told_by, tokens_of};
+ghost use Rattle.fit_table.specs.NamedPlans.{AreCellsFor, AreNamedCells, AreNamedFor, AreNamedIn, IsNamedCell, read_at, spread, told_by, tokens_of};
 ghost use Rattle.fit_table.specs.Tokens.{PutsTokens};
 
 use crate::cell::put_field;
+use crate::commas::put_commas;
 use crate::described::Described;
 use crate::lookup::Lookup;
 use crate::string::put_string;
@@ -87,12 +88,15 @@ pub struct NamedCell {
     pub unit: Unit,
     pub size: u8,
     pub base: u8,
+    /// How many cells without bytes stand before it, after the last one that has bytes.
+    pub gap: u8,
 }
 
-/// The cells of a definition's messages, one for each name.
+/// The cells of a definition's messages, one for each name: those that have bytes, and how many without bytes follow the last of them.
 #[derive(Drop)]
 pub struct NamedPlan {
     pub cells: ArrayVec<NamedCell, MOST_NAMES>,
+    pub rest: u8,
 }
 
 /// For each of the sixteen local numbers the plan of its definition, or none. A plan is made when the first message of its definition is read,
@@ -183,15 +187,7 @@ impl NamedPlans {
             → AreNamedFor known.now (map (λ name. name.now) names.now) place definition_for self.old
             → AreNamedFor known.now (map (λ name. name.now) names.now) place definition_for self.new }
     {
-        let size = definition.content_size() as u32;
-        let definition = definition.read();
-        let fields = definition.developer.as_slice();
-        let start = size - size_of(fields);
-        let told = told_of(known, place, fields);
-        let plan = NamedPlan {
-            cells: cells_of(told.as_slice(), fields, names, start),
-        };
-        self.slots[usize::from(local)] = Some(plan);
+        self.slots[usize::from(local)] = Some(plan_for(definition, known, place, names));
     }
 
     /// The plan of a local number that has one.
@@ -219,6 +215,30 @@ fn stands_in(described: &Described<'_>, place: u64) -> bool
     ensures { result ≡ (described.now.place == place) }
 {
     described.place == place
+}
+
+// The plan of a definition, for a message in this place.
+fn plan_for(
+    definition: &DefinitionMessage<'_>,
+    known: &Lookup<'_, '_>,
+    place: u64,
+    names: &[&[u8]],
+) -> NamedPlan
+    requires { length names.now ≤ MOST_NAMES }
+    ensures { AreCellsFor known.now (map (λ name. name.now) names.now) place definition.now result }
+{
+    if names.is_empty() {
+        return NamedPlan {
+            cells: ArrayVec::new(),
+            rest: 0,
+        };
+    }
+    let size = definition.content_size() as u32;
+    let definition = definition.read();
+    let fields = definition.developer.as_slice();
+    let start = size - size_of(fields);
+    let told = told_of(known, place, fields);
+    plan_of(told.as_slice(), fields, names, start)
 }
 
 // How many bytes these developer fields have.
@@ -255,24 +275,31 @@ fn told_of<'k, 'a>(
 }
 
 // The cells of these names, by the developer fields from this place of the content on.
-fn cells_of(
+fn plan_of(
     told: &[Option<&Described<'_>>],
     fields: &[DeveloperFieldDefinition],
     names: &[&[u8]],
     start: u32,
-) -> ArrayVec<NamedCell, MOST_NAMES>
+) -> NamedPlan
     requires small { start + sum_by (λ field. field.size) fields.now ≤ 130050 }
     requires few { length names.now ≤ MOST_NAMES }
     ensures { AreNamedCells (map (λ told. option_map (λ d. d.now) told) told.now) fields.now start
-        (map (λ name. name.now) names.now) result.items }
+        (map (λ name. name.now) names.now) (spread result.cells.items result.rest) }
 {
     let mut cells = ArrayVec::new();
+    let mut gap: u8 = 0;
     let mut left = names;
     while let [name, others @ ..] = left {
-        cells.push(cell_of(told, fields, name, start));
         left = others;
+        let cell = cell_of(told, fields, name, start, gap);
+        if cell.size == 0 {
+            gap += 1;
+            continue;
+        }
+        cells.push(cell);
+        gap = 0;
     }
-    cells
+    NamedPlan { cells, rest: gap }
 }
 
 // The cell of a name: the first developer field whose description gives it this name.
@@ -281,10 +308,12 @@ fn cell_of(
     fields: &[DeveloperFieldDefinition],
     name: &[u8],
     start: u32,
+    gap: u8,
 ) -> NamedCell
     requires { start + sum_by (λ field. field.size) fields.now ≤ 130050 }
-    ensures { IsNamedCell (map (λ told. option_map (λ d. d.now) told) told.now) fields.now start
+    ensures cell { IsNamedCell (map (λ told. option_map (λ d. d.now) told) told.now) fields.now start
         name.now result }
+    ensures gap { result.gap ≡ gap }
 {
     let mut at = start;
     let mut left = told;
@@ -300,6 +329,7 @@ fn cell_of(
                     unit: described.unit,
                     size: field.size,
                     base: described.base,
+                    gap,
                 };
             }
         }
@@ -312,27 +342,29 @@ fn cell_of(
         unit: Unit::Whole,
         size: 0,
         base: 0,
+        gap,
     }
 }
 
-/// Writes these cells of a content, each after a comma. Numbers are those of the file if `raw` is set.
+/// Writes the cells of a content, each after a comma. Numbers are those of the file if `raw` is set.
 pub fn put_named_cells<W: Write>(
     pen: &mut Pen<'_, W>,
     raw: bool,
-    cells: &[NamedCell],
+    plan: &NamedPlan,
     arch: Arch,
     content: &[u8],
 ) -> Result<(), WriteFailed>
-    requires { AreNamedIn (length content.now) cells.now }
-    ensures { PutsTokens pen.old pen.new result (tokens_of raw cells.now arch content.now) }
+    requires { AreNamedIn (length content.now) (spread plan.now.cells.items plan.now.rest) }
+    ensures { PutsTokens pen.old pen.new result
+        (tokens_of raw (spread plan.now.cells.items plan.now.rest) arch content.now) }
 {
-    let mut left = cells;
+    let mut left = plan.cells.as_slice();
     while let [first, others @ ..] = left {
-        pen.put(b",")?;
+        put_commas(pen, usize::from(first.gap) + 1)?;
         put_named_cell(pen, raw, first, arch, content)?;
         left = others;
     }
-    Ok(())
+    put_commas(pen, usize::from(plan.rest))
 }
 
 // A cell of a content.

@@ -1,6 +1,6 @@
 // A table of a file's messages.
 
-ghost use Rattle.std.specs.Prelude.{◌≡◌, ◌≤◌, ◌++◌, [], length, map, option_map, codes, decimal, IfOk};
+ghost use Rattle.std.specs.Prelude.{◌≡◌, ◌≤◌, ◌++◌, ◌∷◌, [], length, map, option_map, codes, decimal, IfOk};
 ghost use Rattle.fit_grammar.specs.Calls.Output.{WritesText};
 ghost use Rattle.fit_grammar.specs.Format.Message.{messages_of};
 ghost use Rattle.fit_text.specs.Pen.{Puts};
@@ -11,14 +11,15 @@ ghost use Rattle.fit_columns.specs.Places.{ArePlacesIn};
 ghost use Rattle.fit_table.specs.declared.named.TheConstants.{MOST_NAMES};
 ghost use Rattle.fit_table.specs.Lookup.{AreAscending};
 ghost use Rattle.fit_table.specs.Unit.{AreUnits};
-ghost use Rattle.fit_table.specs.Tokens.{PutsTokens, WritesTokens};
-ghost use Rattle.fit_table.specs.Table.{column_name, name_by, names_from, head_of, head_with, cells_at, line_of, lines_by, lines_of, table_of, table_with};
+ghost use Rattle.fit_table.specs.Tokens.{Text, PutsTokens, WritesTokens};
+ghost use Rattle.fit_table.specs.Table.{chosen_names, takes_all, column_name, name_by, names_from, head_of, head_with, cells_at, line_of, lines_by, lines_of, table_of, table_with};
 
-use crate::cell::put_cell;
+use crate::cell::{has_cell, least_size, put_cell};
+use crate::commas::put_commas;
 use crate::described::descriptions_of;
-use crate::layout::Layout;
+use crate::layout::{DeveloperColumns, Layout};
 use crate::lookup::Lookup;
-use crate::named::{MOST_NAMES, NamedCell, names_of, put_named_cells, put_titles};
+use crate::named::{MOST_NAMES, NamedPlan, names_of, put_named_cells, put_titles};
 use crate::unit::{Unit, suffix_in, units_of};
 use crate::walk::{Line, put_lines};
 use fit_base::Arch;
@@ -74,7 +75,7 @@ pub fn write_lines<W: Write>(
         (lines_of layout.now front.now (messages_of file.now.items)) }
 {
     let mut pen = Pen::new(out);
-    let done = put_all_lines(&mut pen, layout, &Lookup::new(&[]), &[], front, file);
+    let done = put_own_lines(&mut pen, layout, front, file);
     let _ = pen.into_writer();
     done
 }
@@ -89,11 +90,74 @@ fn put_table<W: Write>(
         (table_of layout.now (messages_of file.now.items)) }
     ensures none { IfOk result (λ _. pen.new.waiting ≡ []) }
 {
-    if layout.developer {
+    if takes_all(layout) {
         let known = descriptions_of(file);
         return put_described_table(pen, layout, &Lookup::new(known.as_slice()), file);
     }
-    put_described_table(pen, layout, &Lookup::new(&[]), file)
+    put_chosen_table(pen, layout, file)
+}
+
+// Whether each developer field that the file names has a column.
+fn takes_all(layout: &Layout<'_>) -> bool
+    ensures { result ≡ takes_all layout.now.developer }
+{
+    match layout.developer {
+        DeveloperColumns::All => true,
+        DeveloperColumns::Without | DeveloperColumns::Named(_) => false,
+    }
+}
+
+// The table of a file, with columns for the developer fields that the layout names.
+fn put_chosen_table<W: Write>(
+    pen: &mut Pen<'_, W>,
+    layout: &Layout<'_>,
+    file: &LentFile<'_>,
+) -> Result<(), WriteFailed>
+    requires { length layout.now.fields.now ≤ MOST_COLUMNS }
+    ensures text { PutsTokens pen.old pen.new result (Text (head_of layout.now [])
+        ∷ lines_of layout.now [] (messages_of file.now.items)) }
+    ensures none { IfOk result (λ _. pen.new.waiting ≡ []) }
+{
+    put_head(pen, layout, chosen_names(layout), &[])?;
+    put_own_lines(pen, layout, &[], file)
+}
+
+// The lines of a file, with cells for the developer fields that the layout names.
+fn put_own_lines<W: Write>(
+    pen: &mut Pen<'_, W>,
+    layout: &Layout<'_>,
+    front: &[u8],
+    file: &LentFile<'_>,
+) -> Result<(), WriteFailed>
+    requires { length layout.now.fields.now ≤ MOST_COLUMNS }
+    ensures text { PutsTokens pen.old pen.new result
+        (lines_of layout.now front.now (messages_of file.now.items)) }
+    ensures none { IfOk result (λ _. pen.new.waiting ≡ []) }
+{
+    let names = chosen_names(layout);
+    if names.is_empty() {
+        return put_all_lines(pen, layout, &Lookup::new(&[]), names, front, file);
+    }
+    let known = descriptions_of(file);
+    put_all_lines(
+        pen,
+        layout,
+        &Lookup::new(known.as_slice()),
+        names,
+        front,
+        file,
+    )
+}
+
+// The names of developer fields that have a column in each file.
+fn chosen_names<'a>(layout: &Layout<'a>) -> &'a [&'a [u8]]
+    ensures names { map (λ name. name.now) result.now ≡ chosen_names layout.now.developer }
+    ensures few { length result.now ≤ MOST_NAMES }
+{
+    match layout.developer {
+        DeveloperColumns::Named(names) => names.as_slice(),
+        DeveloperColumns::Without | DeveloperColumns::All => &[],
+    }
 }
 
 // The table of a file, with columns for the developer fields that these describe.
@@ -122,7 +186,7 @@ fn put_whole_head<W: Write>(
     ensures text { Puts pen.old pen.new result (head_of layout.now front.now) }
     ensures none { IfOk result (λ _. pen.new.waiting ≡ []) }
 {
-    put_head(pen, layout, &[], front)?;
+    put_head(pen, layout, chosen_names(layout), front)?;
     pen.hand_over()
 }
 
@@ -234,7 +298,7 @@ impl<'a> Line for Row<'a> {
         &self,
         pen: &mut Pen<'_, W>,
         plan: &Plan,
-        cells: &[NamedCell],
+        named: &NamedPlan,
         time: Option<u32>,
         found: &DataMessage<'_>,
     ) -> Result<(), WriteFailed> {
@@ -249,7 +313,7 @@ impl<'a> Line for Row<'a> {
             time,
             found.content,
         )?;
-        put_named_cells(pen, self.layout.raw, cells, plan.arch, found.content)?;
+        put_named_cells(pen, self.layout.raw, named, plan.arch, found.content)?;
         pen.put(b"\r\n")
     }
 }
@@ -264,17 +328,26 @@ fn put_cells<W: Write>(
     content: &[u8],
 ) -> Result<(), WriteFailed>
     requires units { AreUnits layout.now units.now }
+    requires few { length places.now ≤ MOST_COLUMNS }
     requires inside { ArePlacesIn (length content.now) places.now }
     ensures { PutsTokens pen.old pen.new result
         (cells_at layout.now arch time content.now [] places.now) }
 {
-    let mut front: &[u8] = &[];
+    let least = least_size(layout);
+    let mut commas = 0; // They are left before the next cell. Those of empty ones are put together.
     let mut left = places;
     while let [place, others @ ..] = left {
-        pen.put(front)?;
-        put_cell(pen, layout, units, place, arch, time, content)?;
-        front = b",";
         left = others;
+        if !has_cell(place, least) {
+            commas += 1;
+            continue;
+        }
+        put_commas(pen, commas)?;
+        put_cell(pen, layout, units, place, arch, time, content)?;
+        commas = 1;
     }
-    Ok(())
+    if commas == 0 {
+        return Ok(());
+    }
+    put_commas(pen, commas - 1)
 }

@@ -12,7 +12,7 @@ ghost use Rattle.fit_table.specs.Table.{lines_by};
 ghost use Rattle.fit_table.specs.Tokens.{Token, PutsTokens};
 
 use crate::lookup::Lookup;
-use crate::named::{MOST_NAMES, NamedCell, NamedPlans};
+use crate::named::{MOST_NAMES, NamedPlan, NamedPlans};
 use fit_columns::{MOST_COLUMNS, Plan, Plans, codes_of};
 use fit_grammar::{DataMessage, FileItem, LentFile, WriteFailed};
 use fit_text::Pen;
@@ -25,21 +25,21 @@ pub trait Line {
 
     ghost tokens: { Self → List Description → List (List ℕ) → ℕ → Message → List Token };
 
-    /// Puts the text of a message. The plan says where its fields are, and the cells where those of developer fields are.
+    /// Puts the text of a message. The plan says where its fields are, and the other one where those of developer fields are.
     fn put<W: Write>(
         &self,
         pen: &mut Pen<'_, W>,
         plan: &Plan,
-        cells: &[NamedCell],
+        named: &NamedPlan,
         time: Option<u32>,
         found: &DataMessage<'_>,
     ) -> Result<(), WriteFailed>
         requires numbers { (k : ℕ) → slice_index_or (fields self.now) k 0 < 256 }
         requires plan { IsPlanOf (fields self.now) found.now.definition plan.now }
         requires cells { (known : List Description) × (names : List (List ℕ)) × (place : ℕ)
-            × AreCellsFor known names place found.now.definition cells.now }
+            × AreCellsFor known names place found.now.definition named.now }
         ensures { (known : List Description) (names : List (List ℕ)) (place : ℕ)
-            → AreCellsFor known names place found.now.definition cells.now
+            → AreCellsFor known names place found.now.definition named.now
             → PutsTokens pen.old pen.new result (tokens self.now known names place
             (message_under found.now.definition time found.now.content.now)) };
 }
@@ -84,8 +84,9 @@ pub fn put_lines<L: Line, W: Write>(
                 }
                 plans.settle(found.local, &found.definition, codes, &mut []);
                 named.settle(found.local, &found.definition, known, place, names);
-                let cells = named.get(found.local).cells.as_slice();
-                line.put(pen, plans.get(found.local), cells, time, &found)?;
+                let plan = plans.get(found.local);
+                let cells = named.get(found.local);
+                line.put(pen, plan, cells, time, &found)?;
                 named.pass(known.known(), place);
             }
         }

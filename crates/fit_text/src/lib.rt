@@ -20,6 +20,8 @@
 //! `put_values` the one way to write the values of a field. `show_json` is a second form. Contracts use the definitions in `specs/`:
 //! `Notation` and `Values` have how values are written, `Form` the lines of a file, `Text` and `Json` the two forms, `Date` the dates, and
 //! `Pen` what a pen puts. `Plan` is only for private functions, proofs, and forms.
+//!
+//! Proved: the text of a file is exactly that of its messages, each value as `Values` has it. Trusted is the kit alone.
 #![tactic(auto)]
 
 mod form;

@@ -6,7 +6,7 @@ use Rattle.clap.specs.Words.{first_value, matched_of, one_text, raw_values}
 use Rattle.fit_words.specs.declared.request.Names.{Names}
 use Rattle.fit_words.specs.declared.request.Request.{Request}
 use Rattle.fit_words.specs.declared.request.TableForm.{TableForm}
-use Rattle.fit_words.specs.declared.request.Request.TheVariants.{Show, Check, CheckEach, Table, TableEach, Replay, Record, Save, Repair, Salvage, Split, Plain, Simulate, Version}
+use Rattle.fit_words.specs.declared.request.Request.TheVariants.{Show, Check, CheckEach, Table, TableEach, Replay, Record, Save, Repair, Salvage, Split, Plain, Shift, Join, Simulate, Version}
 
 -- this is the word found under a name
 abbrev pub IsWord : Found → List ℕ → Bor (List ℕ) → Type 0
@@ -83,6 +83,14 @@ IsAskedBy name found (Split file folder all) =
     × IsFlag found (codes "all") all
 IsAskedBy name found (Plain file to) =
     (name ≡ codes "plain") × IsWord found (codes "IN") file × IsWord found (codes "OUT") to
+IsAskedBy name found (Shift file to form) =
+    (name ≡ codes "shift") × IsWord found (codes "IN") file × IsWord found (codes "OUT") to
+    × (option_map (λ word. word.now) form.by ≡ first_value found (codes "by"))
+    × (option_map (λ word. word.now) form.start ≡ first_value found (codes "start"))
+IsAskedBy name found (Join to first others as_given) =
+    (name ≡ codes "join") × IsWord found (codes "OUT") to × IsWord found (codes "IN") first
+    × (map (λ name. name.now) others.items ≡ words_found found (codes "MORE"))
+    × IsFlag found (codes "as-given") as_given
 IsAskedBy name found (Simulate script choices checked) =
     (name ≡ codes "simulate") × IsWord found (codes "SCRIPT") script
     × (choices.now ≡ unwrap_or (first_value found (codes "choices")) [])

@@ -18,8 +18,12 @@ pub(crate) enum Argument {
     Value(&'static str, &'static str, &'static str),
     /// An option with a value, whose name is the third text, that needs the option of the fourth.
     ValueWith(&'static str, &'static str, &'static str, &'static str),
+    /// An option with a value, whose name is the third text. Of such options of a subcommand exactly one has to be there.
+    OneOf(&'static str, &'static str, &'static str),
     /// Any number of words, which need the option of the third text.
     MoreWith(&'static str, &'static str, &'static str),
+    /// One word or more.
+    Several(&'static str, &'static str),
 }
 
 pub(crate) const UTC: Argument = Argument::Flag("utc", "Shows times as dates in UTC");
@@ -70,6 +74,23 @@ pub(crate) const COMMIT: Argument = Argument::Value(
     "commit",
     "Commits after an entry that comes so many seconds of the ride after the last commit (10); 0 commits at the end alone",
     "SECONDS",
+);
+
+pub(crate) const BY: Argument = Argument::OneOf(
+    "by",
+    "Moves the times by so many seconds, or by -SECONDS into the past",
+    "SECONDS",
+);
+
+pub(crate) const START: Argument = Argument::OneOf(
+    "start",
+    "Moves the times so that the ride starts at this time, such as 2026-05-01T08:00:00Z or 2026-05-01T10:00:00+02:00",
+    "TIME",
+);
+
+pub(crate) const AS_GIVEN: Argument = Argument::Flag(
+    "as-given",
+    "Takes the parts in the order in which they are given, even if their sports differ or their times overlap",
 );
 
 pub(crate) const CHECKED: Argument = Argument::Flag(
@@ -172,6 +193,8 @@ pub(crate) const CHAINED: Argument = Argument::Required(
 
 pub(crate) const IN: Argument = Argument::Required("IN", "The path of a FIT file");
 
+pub(crate) const OTHERS: Argument = Argument::Several("MORE", "The paths of the other FIT files");
+
 pub(crate) const OUT: Argument = Argument::Required(
     "OUT",
     "The path of the file that is made or replaced",
@@ -197,8 +220,17 @@ pub(crate) fn arg_of<'a>(alloc: Global, argument: Argument) -> Result<Arg<'a>, E
             let word = word(alloc, name, help).long(name).value_name(value);
             Ok(word.requires_arg(option)?)
         }
+        Argument::OneOf(name, help, value) => Ok(
+            word(alloc, name, help)
+                .long(name)
+                .value_name(value)
+                .allow_negative_numbers(true),
+        ),
         Argument::MoreWith(name, help, option) => {
             Ok(word(alloc, name, help).num_args(0..).requires_arg(option)?)
+        }
+        Argument::Several(name, help) => {
+            Ok(word(alloc, name, help).num_args(1..).required(true))
         }
     }
 }

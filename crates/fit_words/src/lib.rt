@@ -5,6 +5,9 @@
 //! shows it, and `text` has what stands for a word that is not UTF-8. This crate depends on `clap` alone.
 //!
 //! The contracts use the definitions of `specs/`.
+//!
+//! Proved: which words make which request. The texts of errors and help are those of `clap`. Trusted beside the kit is that an argument of
+//! the system is what was typed.
 #![tactic(auto)]
 
 mod arguments;
@@ -16,7 +19,7 @@ mod text;
 use clap::error::ErrorKind;
 use clap::{ArgMatches, Command, Error};
 use request::request_in;
-pub use request::{Names, Request, SalvageForm, TableForm};
+pub use request::{Names, Request, SalvageForm, ShiftForm, TableForm};
 pub use shown::ShownWord;
 use std::alloc::{AllocError, Global};
 use std::convert::AsStr;
@@ -97,6 +100,24 @@ pub fn too_many_fields(alloc: Global) -> Result<Error, Error> {
 pub fn no_seconds(alloc: Global, word: &str) -> Result<Error, Error> {
     let why = format!(in alloc;
         "invalid value '{}' for '--commit <SECONDS>': it is no number from 0 to 4294967295",
+        ShownWord(word)
+    )?;
+    value_error(alloc, why.as_str())
+}
+
+/// The error for a word of `--by` that is not a number of seconds.
+pub fn no_shift(alloc: Global, word: &str) -> Result<Error, Error> {
+    let why = format!(in alloc;
+        "invalid value '{}' for '--by <SECONDS>': it is no whole number from -4294967294 to 4294967294",
+        ShownWord(word)
+    )?;
+    value_error(alloc, why.as_str())
+}
+
+/// The error for a word of `--start` that is not a time.
+pub fn no_start(alloc: Global, word: &str) -> Result<Error, Error> {
+    let why = format!(in alloc;
+        "invalid value '{}' for '--start <TIME>': it is no date and time with a zone, such as 2026-05-01T08:00:00Z, and no number below 4294967295",
         ShownWord(word)
     )?;
     value_error(alloc, why.as_str())

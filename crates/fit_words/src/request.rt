@@ -67,6 +67,18 @@ pub enum Request<'a> {
         file: &'a str,
         to: &'a str,
     },
+    Shift {
+        file: &'a str,
+        to: &'a str,
+        form: ShiftForm<'a>,
+    },
+    Join {
+        to: &'a str,
+        /// The names of the parts, as they are given.
+        first: &'a str,
+        others: Vec<&'a str>,
+        as_given: bool,
+    },
     Simulate {
         script: &'a str,
         choices: &'a str,
@@ -106,12 +118,22 @@ pub struct SalvageForm<'a> {
     pub finish: bool,
 }
 
+/// How the times of a file are moved: one of both words is there.
+#[derive(Clone, Copy)]
+pub struct ShiftForm<'a> {
+    /// The word of `--by`, if it is there.
+    pub by: Option<&'a str>,
+    /// The word of `--start`, if it is there.
+    pub start: Option<&'a str>,
+}
+
 // The request that the words after the program's name make.
 pub(crate) fn request_in<'a>(
     alloc: Global,
     matches: &ArgMatches<'a>,
 ) -> Result<Option<Request<'a>>, AllocError> {
     match matches.subcommand() {
+        Some(("join", of_name)) => join_of(alloc, of_name),
         Some((name, of_name)) if of_name.get_flag("each") => each_of(alloc, name, of_name),
         Some((name, of_name)) => Ok(request_of(name, of_name)),
         None => Ok(None),
@@ -147,6 +169,24 @@ fn each_of<'a>(
     }
 }
 
+// The request of the subcommand `join`.
+fn join_of<'a>(alloc: Global, matches: &ArgMatches<'a>) -> Result<Option<Request<'a>>, AllocError>
+    ensures { IfOk result (λ request.
+        IfSome request (IsAskedBy (codes "join") (found_of matches.now))) }
+{
+    let (Some(to), Some(first)) = (matches.get_str("OUT"), matches.get_str("IN")) else {
+        return Ok(None);
+    };
+    let others = words_of(alloc, matches.get_strs("MORE"))?;
+    let as_given = matches.get_flag("as-given");
+    Ok(Some(Request::Join {
+        to,
+        first,
+        others,
+        as_given,
+    }))
+}
+
 // The names of several files.
 fn names_of<'a>(
     alloc: Global,
@@ -162,6 +202,17 @@ fn names_of<'a>(
         names.extend_from_slice(more)?;
     }
     Ok(names)
+}
+
+// These words, if there are any.
+fn words_of<'a>(alloc: Global, words: Option<&[&'a str]>) -> Result<Vec<&'a str>, AllocError>
+    ensures { IfOk result (λ all. map (λ word. word.now) all.items ≡ names_in words.entry) }
+{
+    let mut all = Vec::new(alloc);
+    if let Some(words) = words {
+        all.extend_from_slice(words)?;
+    }
+    Ok(all)
 }
 
 // How a table is written.
@@ -192,6 +243,7 @@ fn request_of<'a>(name: &str, matches: &ArgMatches<'a>) -> Option<Request<'a>>
         "salvage" => salvage_of(matches),
         "split" => split_of(matches),
         "plain" => plain_of(matches),
+        "shift" => shift_of(matches),
         "simulate" => simulate_of(matches),
         "version" => Some(Request::Version),
         _ => None,
@@ -298,6 +350,19 @@ fn plain_of<'a>(matches: &ArgMatches<'a>) -> Option<Request<'a>>
     Some(Request::Plain {
         file: matches.get_str("IN")?,
         to: matches.get_str("OUT")?,
+    })
+}
+
+fn shift_of<'a>(matches: &ArgMatches<'a>) -> Option<Request<'a>>
+    ensures { IfSome result (IsAskedBy (codes "shift") (found_of matches.now)) }
+{
+    Some(Request::Shift {
+        file: matches.get_str("IN")?,
+        to: matches.get_str("OUT")?,
+        form: ShiftForm {
+            by: matches.get_str("by"),
+            start: matches.get_str("start"),
+        },
     })
 }
 

@@ -1,15 +1,16 @@
 // The subcommands, and the words that each takes.
 
 use crate::arguments::{
-    ALL, ALL_FILES, Argument, CHAINED, CHECKED, CHOICES, COMMIT, DAMAGED, EACH, EACH_JSON, EARLIER,
-    FIELDS, FILE, FINISH, FOLDER, GPX, IN, INTO, JSON, JSON_PROFILE, LIKE, MESSAGE, MORE, NULL,
-    OUT, PLAIN, PROFILE, RAW, SCRIPT, SKIP, TABLE_FILE, UTC, VERIFY, arg_of,
+    ALL, ALL_FILES, AS_GIVEN, Argument, BY, CHAINED, CHECKED, CHOICES, COMMIT, DAMAGED, EACH,
+    EACH_JSON, EARLIER, FIELDS, FILE, FINISH, FOLDER, GPX, IN, INTO, JSON, JSON_PROFILE, LIKE,
+    MESSAGE, MORE, NULL, OTHERS, OUT, PLAIN, PROFILE, RAW, SCRIPT, SKIP, START, TABLE_FILE, UTC,
+    VERIFY, arg_of,
 };
-use clap::{Command, Error};
+use clap::{ArgGroup, Command, Error};
 use std::alloc::Global;
 
 // Each subcommand with its help and its words. Help lists them in this order.
-const SUBCOMMANDS: [(&'static str, &'static str, &'static [Argument]); 12] = [
+const SUBCOMMANDS: [(&'static str, &'static str, &'static [Argument]); 14] = [
     (
         "show",
         "Shows every message of a FIT file, a line each",
@@ -63,6 +64,16 @@ const SUBCOMMANDS: [(&'static str, &'static str, &'static [Argument]); 12] = [
         &[IN, OUT],
     ),
     (
+        "shift",
+        "Makes the same FIT file with every time in it moved, for a clock that was wrong; each time is written out, as plain does",
+        &[BY, START, IN, OUT],
+    ),
+    (
+        "join",
+        "Makes one activity of several FIT files, the parts of a ride, in the order of their times; each time is written out, as plain does",
+        &[AS_GIVEN, OUT, IN, OTHERS],
+    ),
+    (
         "simulate",
         "Runs a script over a disk in memory, whose calls fail and whose power goes where it says so",
         &[CHECKED, CHOICES, SCRIPT],
@@ -96,8 +107,15 @@ fn command_of<'a>(
     arguments: &[Argument],
 ) -> Result<Command<'a>, Error> {
     let mut command = Command::new(alloc, name).about(about);
+    let mut choice = ArgGroup::new(alloc, "choice");
     for &argument in arguments {
         command = command.arg(arg_of(alloc, argument)?)?;
+        if let Argument::OneOf(name, _, _) = argument {
+            choice = choice.arg(name)?.required(true);
+        }
+    }
+    if choice.is_required_set() {
+        command = command.group(choice)?;
     }
     Ok(command)
 }

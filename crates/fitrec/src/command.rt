@@ -1,32 +1,24 @@
 // The program as one call: words in, text out, and the exit status.
 //
-// `fit_words` reads the words, and `fit_commands` does what they request with files and folders. A subcommand that runs a script has
-// its own file. They share `status`, which prints a fault.
+// `fit_words` reads the words, and `fit_commands` does what they request with files and folders. All share `status`, which prints a fault.
 
 ghost use Rattle.std.specs.Prelude.{◌≤◌};
 
-mod record;
-mod replay;
-mod simulate;
-mod version;
-
 use clap::error::ErrorKind;
 use fit_commands::{
-    Chosen, Fault, NotChosen, check_each, check_file, export_file, make_plain, repair_folder,
-    salvage_file, save_folder, show_file, split_file, table_each, table_file, table_of_all,
-    verify_folder,
+    Chosen, Fault, NotChosen, NotShift, check_each, check_file, export_file, join_parts,
+    make_plain, make_shifted, print_version, record_folder, repair_folder, replay_script,
+    salvage_file, save_folder, shift_by, show_file, simulate_script, split_file, table_each,
+    table_file, table_of_all, verify_folder,
 };
-use fit_exports::ExportForm;
+use fit_files::ExportForm;
 use fit_scripts::read_choices;
 use fit_words::{
-    Names, Request, TableForm, no_choices, no_name, no_seconds, read_words, too_many_fields,
+    Names, Request, ShiftForm, TableForm, no_choices, no_name, no_seconds, no_shift, no_start,
+    read_words, too_many_fields,
 };
-use record::record_folder;
-use replay::replay_script;
-use simulate::simulate_script;
 use std::convert::AsStr;
 use std::io::Write;
-use version::print_version;
 
 /// Runs the command of the words after the program's name. Its text goes to `out`. A fault is one line on `err`, and a text on wrong
 /// words, or help, goes there too. Returns the exit status: 0, 1 after a fault, or 2 if the words are no command or request help.
@@ -111,6 +103,18 @@ pub fn command<S: AsStr, O: Write, E: Write>(
             status(split_file(rt, file, folder, all, out), err)
         }
         Ok(Request::Plain { file, to }) => status(make_plain(rt, file, to, out), err),
+        Ok(
+            Request::Join {
+                to,
+                first,
+                others,
+                as_given,
+            },
+        ) => {
+            let done = join_parts(rt, first, others.as_slice(), as_given, to, out);
+            status(done, err)
+        }
+        Ok(Request::Shift { file, to, form }) => shift_chosen(rt, file, to, &form, out, err),
         Ok(
             Request::Simulate {
                 script,
@@ -198,6 +202,28 @@ fn not_chosen<E: Write>(rt: &HostRuntime, why: NotChosen<'_>, err: &mut E) -> u8
         NotChosen::Message(word) => no_name(rt.alloc(), "--message <NAME>", word),
         NotChosen::Field(word) => no_name(rt.alloc(), "--fields <NAMES>", word),
         NotChosen::TooMany => too_many_fields(rt.alloc()),
+    };
+    match text {
+        Ok(refusal) => refused(refusal, err),
+        Err(refusal) => refused(refusal, err),
+    }
+}
+
+// Moves the times of a file. It is read only if the words say how.
+fn shift_chosen<O: Write, E: Write>(
+    rt: &HostRuntime,
+    file: &str,
+    to: &str,
+    form: &ShiftForm<'_>,
+    out: &mut O,
+    err: &mut E,
+) -> u8
+    ensures { result ≤ 2 }
+{
+    let text = match shift_by(form) {
+        Ok(by) => return status(make_shifted(rt, file, to, by, out), err),
+        Err(NotShift::By(word)) => no_shift(rt.alloc(), word),
+        Err(NotShift::Start(word)) => no_start(rt.alloc(), word),
     };
     match text {
         Ok(refusal) => refused(refusal, err),

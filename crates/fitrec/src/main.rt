@@ -1,7 +1,7 @@
 //! The program `fitrec`: it records rides, repairs them, and reads FIT files and shows their content.
 //!
 //! `command` is the program as one call: words in, text out, and the exit status. `fit_commands` does what they
-//! request with files and folders. The subcommands that run scripts have their files in `command/`.
+//! request with files and folders.
 //!
 //!     fitrec show row3.fit
 //!
@@ -11,8 +11,9 @@
 //!     0 file_id type=4 time_created=1000000000
 //!     messages 1
 //!
-//! (The stored run of this crate: `args`, `data` and `stdout`.) Contracts use the definitions of `specs/` here and in
-//! `fit_commands`: `Faults` has the faults of each subcommand, and `Reported` has what it prints.
+//! (The stored run of this crate: `args`, `data` and `stdout`.)
+//!
+//! Proved: it ends with one of three statuses on any words. What each status means, `compare/rows` checks.
 #![tactic(auto)]
 
 mod command;

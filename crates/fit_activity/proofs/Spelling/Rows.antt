@@ -1,14 +1,14 @@
 -- Fields made from the rows of a table.
-use Rattle.std.proofs.Common.{◌≡◌, ℕ, ◌+◌, ◌≤◌, ◌<◌, List, [], ◌∷◌, length, Option, Some, None, refl, sym, ap, ◌∙◌, subst, arith, rules}
+use Rattle.std.proofs.Common.{◌≡◌, ℕ, ◌+◌, ◌≤◌, ◌<◌, List, [], ◌∷◌, length, map, Option, Some, None, refl, sym, ap, ◌∙◌, subst, arith, rules}
 use Rattle.std.specs.List.{AllByRecursion}
 use Rattle.std.proofs.lemmas.List.Sums.{sum_by-cons}
 use Rattle.fit_base.specs.Base.{row_of}
 use Rattle.fit_activity.specs.declared.speaking.profile_field.ProfileField.{ProfileField}
 use Rattle.fit_activity.specs.Rides.Fields.{SampleField, sample_rows}
 use Rattle.fit_activity.specs.Rides.Table.{ValuesFit, AreShort, Ascend}
-use Rattle.fit_activity.specs.Messages.ProfileField.{profile_field, OptionFits, IsShortField, present, content_length}
+use Rattle.fit_activity.specs.Messages.ProfileField.{profile_field, message_field, OptionFits, IsShortField, present, content_length}
 use Rattle.fit_activity.specs.Messages.ProfileMessage.{fields_by}
-use Rattle.fit_activity.specs.Private.Reader.{Lack}
+use Rattle.fit_activity.specs.Private.Reader.{Lack, fields_in_rows}
 
 -- the rows of a sample's table are short
 pub sample-rows-short : AreShort sample_rows
@@ -43,14 +43,14 @@ rows-content (row ∷ rows) (Some value ∷ values) =
     omega (arith, rows-content rows values, sum_by-cons (λ (f : ProfileField). (row_of f.base).size) (profile_field row.0 row.1 value) (present (fields_by rows values)))
 
 -- no present field has a number below those of the rows, or that of a timestamp
-pub lack : (rows : List SampleField) (values : List (Option ℕ)) (number from : ℕ) → number < from → Ascend from rows → Lack number (present (fields_by rows values))
+pub lack : (rows : List SampleField) (values : List (Option ℕ)) (number from : ℕ) → number < from → Ascend from rows → Lack number (fields_in_rows rows values)
 lack [] values number from below up = tt
 lack (row ∷ rows) [] number from below up = tt
 lack (row ∷ rows) (None ∷ values) number from below up = lack rows values number (row.0 + 1) (omega (arith, below, up.0)) up.2
 lack (row ∷ rows) (Some value ∷ values) number from below up =
     ((λ same. omega (arith, below, up.0, same)), lack rows values number (row.0 + 1) (omega (arith, below, up.0)) up.2)
 
-pub lack-time : (rows : List SampleField) (values : List (Option ℕ)) (from : ℕ) → Ascend from rows → Lack 253 (present (fields_by rows values))
+pub lack-time : (rows : List SampleField) (values : List (Option ℕ)) (from : ℕ) → Ascend from rows → Lack 253 (fields_in_rows rows values)
 lack-time [] values from up = tt
 lack-time (row ∷ rows) [] from up = tt
 lack-time (row ∷ rows) (None ∷ values) from up = lack-time rows values (row.0 + 1) up.2
@@ -72,9 +72,9 @@ same-values (row ∷ rows) (v ∷ vs) [] from up long wide same = absurd (omega 
 same-values (row ∷ rows) (None ∷ vs) (None ∷ os) from up long wide same =
     ap (λ xs. None ∷ xs) (same-values rows vs os (row.0 + 1) up.2 (omega (arith, long)) (omega (arith, wide)) same)
 same-values (row ∷ rows) (Some v ∷ vs) (None ∷ os) from up long wide same =
-    absurd ((subst (Lack row.0) (sym same) (lack rows os row.0 (row.0 + 1) (omega arith) up.2)).0 refl)
+    absurd ((subst (λ fields. Lack row.0 (map message_field fields)) (sym same) (lack rows os row.0 (row.0 + 1) (omega arith) up.2)).0 refl)
 same-values (row ∷ rows) (None ∷ vs) (Some o ∷ os) from up long wide same =
-    absurd ((subst (Lack row.0) same (lack rows vs row.0 (row.0 + 1) (omega arith) up.2)).0 refl)
+    absurd ((subst (λ fields. Lack row.0 (map message_field fields)) same (lack rows vs row.0 (row.0 + 1) (omega arith) up.2)).0 refl)
 same-values (row ∷ rows) (Some v ∷ vs) (Some o ∷ os) from up long wide same =
     let first : v ≡ o = ap first_value same in
     let rest : present (fields_by rows vs) ≡ present (fields_by rows os) = cc in

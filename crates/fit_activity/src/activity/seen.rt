@@ -3,7 +3,6 @@
 ghost use Rattle.std.specs.Prelude.{◌≡◌, ◌+◌, ◌<◌, ◌^◌, []};
 ghost use Rattle.fit_activity.specs.Private.Seen.{session_values as values_of_session};
 
-use crate::activity::field_value::{uint32_of, value_of};
 use crate::activity::{ActivityFault, Summary};
 use crate::speaking::numbers::{ACTIVITY, ACTIVITY_FILE, FILE_ID, LAP, RECORD, SESSION};
 use fit_base::BaseType;
@@ -77,8 +76,8 @@ impl Seen {
         if !self.begun {
             self.begun = true;
             self.file_id = message.global() == FILE_ID;
-            self.activity_file = value_of(message, 0, BaseType::Enum)
-                == Some(u64::from(ACTIVITY_FILE));
+            self.activity_file = message.value_of(0, BaseType::Enum)
+                == Some(u32::from(ACTIVITY_FILE));
         }
     }
 
@@ -144,9 +143,9 @@ fn session_values(message: &Message) -> SessionValues
     ensures { result ≡ values_of_session message.now.message }
 {
     SessionValues {
-        start: uint32_of(message, 2),
-        elapsed_ms: uint32_of(message, 7),
-        timer_ms: uint32_of(message, 8),
-        distance_cm: uint32_of(message, 9),
+        start: message.value_of(2, BaseType::Uint32),
+        elapsed_ms: message.value_of(7, BaseType::Uint32),
+        timer_ms: message.value_of(8, BaseType::Uint32),
+        distance_cm: message.value_of(9, BaseType::Uint32),
     }
 }

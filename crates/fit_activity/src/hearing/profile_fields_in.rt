@@ -6,7 +6,6 @@ ghost use Rattle.fit_grammar.specs.Calls.LentField.{field_view};
 ghost use Rattle.fit_activity.specs.declared.speaking.profile_field.ProfileField.{ProfileField as AnyProfileField};
 ghost use Rattle.fit_activity.specs.Messages.ProfileField.{message_field, ProfileFieldFits, IsShortField};
 
-use crate::hearing::one_value::one_value;
 use crate::speaking::profile_field::ProfileField;
 use arrayvec::ArrayVec;
 use fit_grammar::{Field, Fields, Message};
@@ -66,6 +65,6 @@ fn profile_field_of(field: &Field) -> Option<ProfileField>
     Some(ProfileField {
         number: field.number,
         base,
-        value: u32::try_from(one_value(&field.value)?).ok()?,
+        value: field.number_as(base)?,
     })
 }

@@ -4,8 +4,6 @@ use Rattle.fit_files.specs.declared.fault.ReportFault.{ReportFault}
 use Rattle.fit_files.specs.declared.fault.ReportFault.TheVariants.{File, Activity, Output, Input, Plain}
 use Rattle.fit_files.specs.declared.reading.ReadFault.{ReadFault}
 use Rattle.fit_files.specs.declared.reading.ReadFault.TheVariants.{Failed, TooLarge, NoMemory}
-use Rattle.fit_files.specs.declared.repairing.RepairFault.{RepairFault}
-use Rattle.fit_files.specs.declared.repairing.RepairFault.TheVariants as repairs
 
 -- of a fault of reading an input
 abbrev pub read_code : ReadFault → ℕ
@@ -20,8 +18,3 @@ fault_number (Activity fault) = 2
 fault_number Output = 3
 fault_number (Input why) = 4
 fault_number (Plain fault) = 5
-
--- of a fault of a repair
-abbrev pub repair_code : RepairFault → ℕ
-repair_code (repairs.Recorder fault) = 1
-repair_code repairs.Output = 2

@@ -31,7 +31,7 @@ pub(super) fn read_in_two(alloc: Global, front: &[u8], back: &[u8]) -> Result<Fi
     decoder.finish()
 }
 
-pub(super) fn written(alloc: Global, file: &File) -> Result<Vec<u8>, EncodeFault> {
+pub fn written(alloc: Global, file: &File) -> Result<Vec<u8>, EncodeFault> {
     let mut bytes = Vec::new(alloc);
     encode_file(file, &mut bytes)?;
     Ok(bytes)

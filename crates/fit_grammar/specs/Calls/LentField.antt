@@ -1,5 +1,8 @@
 -- Fields of a message, as they are lent.
-use Rattle.fit_base.specs.Value.{values_of}
+use Rattle.std.specs.Prelude.{ℕ, [], ◌∷◌}
+use Rattle.fit_base.specs.declared.base.BaseType.{BaseType}
+use Rattle.fit_base.specs.Base.{row_of}
+use Rattle.fit_base.specs.Value.{Numbers, values_of}
 use Rattle.fit_grammar.specs.declared.message.developer.DeveloperField.{DeveloperField}
 use Rattle.fit_grammar.specs.declared.message.fields.Field.{Field}
 use Rattle.fit_grammar.specs.Format.Message.{MessageDeveloperField, MessageField}
@@ -11,6 +14,15 @@ field_view field =
       number = field.number;
       base = field.value.base;
       values = values_of field.value;
+    }
+
+-- the field of this number and this type with this one value
+abbrev pub field_with : ℕ → BaseType → ℕ → MessageField
+field_with number base value =
+    record {
+      number = number;
+      base = (row_of base).code;
+      values = Numbers (value ∷ []);
     }
 
 -- a developer field's index, number and bytes, with their order

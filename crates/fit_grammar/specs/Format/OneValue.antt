@@ -10,6 +10,11 @@ abbrev pub one_of : Values → Option ℕ
 one_of (Numbers (value ∷ [])) = Some value
 one_of _ = None
 
+-- the number of a field, valid or not, if it has this base type and one value
+abbrev pub number_in : BaseType → MessageField → Option ℕ
+number_in base field =
+    if field.base == (row_of base).code then one_of field.values else None
+
 -- the value of a field, if it has this base type and one value that is not invalid
 abbrev pub value_in : BaseType → MessageField → Option ℕ
 value_in base field =

@@ -1,12 +1,11 @@
 // The time of a message.
 
 ghost use Rattle.std.specs.Prelude.{◌≡◌};
-ghost use Rattle.fit_base.specs.Value.{values_of};
-ghost use Rattle.fit_grammar.specs.Format.Message.{next_time as next_time_of, compressed_time as compressed_time_of, stated_by, time_stated, time_in as time_of_values};
+ghost use Rattle.fit_grammar.specs.Format.Message.{next_time as next_time_of, compressed_time as compressed_time_of, stated_by, time_stated};
 ghost use Rattle.fit_grammar.specs.Calls.LentField.{field_view};
 
 use crate::message::{Field, Fields};
-use fit_base::{FieldValue, number_of};
+use fit_base::BaseType;
 
 // The least time that is not below the one before and equals the offset modulo 32, wrapped at 2^32.
 fn next_time(before: u32, offset: u8) -> u32
@@ -25,43 +24,28 @@ pub(crate) fn compressed_time(before: u32, offset: Option<u8>) -> Option<u32>
     }
 }
 
-// The time of the first field that states one.
-pub(crate) fn stated_time(fields: Fields) -> Option<u32>
-    ensures { result ≡ time_stated fields.entry }
-{
-    for field in fields {
-        let time = time_by(&field);
-        if time.is_some() {
-            return time;
+impl<'m> Fields<'m> {
+    /// The time that the fields state: the value of the first field 253 of base type 0x86 and size 4 that is not invalid.
+    pub fn stated_time(self) -> Option<u32>
+        ensures { result ≡ time_stated self.entry }
+    {
+        for field in self {
+            let time = time_by(&field);
+            if time.is_some() {
+                return time;
+            }
         }
+        None
     }
-    None
 }
 
 // The time that a field states, if it is field 253 of base type 0x86.
 fn time_by(field: &Field) -> Option<u32>
     ensures { result ≡ stated_by (field_view field.now) }
 {
-    if field.number == 253 && field.value.base() == 0x86 {
-        time_in(&field.value)
+    if field.number == 253 {
+        field.value_as(BaseType::Uint32)
     } else {
         None
-    }
-}
-
-// The one number of a value of base type 0x86, if it is valid.
-fn time_in(value: &FieldValue) -> Option<u32>
-    requires { value.now.base ≡ 0x86 }
-    ensures { result ≡ time_of_values (values_of value.now) }
-{
-    let bytes = value.raw();
-    if bytes.len() != 4 {
-        return None;
-    }
-    let time = number_of(value.arch(), bytes) as u32;
-    if time == 0xFFFF_FFFF {
-        None
-    } else {
-        Some(time)
     }
 }

@@ -24,7 +24,7 @@ use Rattle.fit_recorder.specs.Calls.Answers.{StartAnswers}
 use Rattle.fit_recorder.specs.Calls.Recorder.{StandsAt, data_checksum, data_len, disk_of, journal_slots}
 use Rattle.fit_recorder.specs.Calls.Recovery.{KeepsJournal}
 use Rattle.fit_recorder.specs.Calls.Start.{InStart}
-use Rattle.fit_scripts.specs.declared.command.Command.TheVariants as commands
+use Rattle.fit_histories.specs.declared.command.Command.TheVariants as commands
 use Rattle.fit_histories.specs.declared.reply.Reply.TheVariants as replies
 use Rattle.fit_histories.specs.declared.ride.Ride.TheVariants as rides
 use Rattle.fit_histories.specs.Histories.Table.{History, Idle, Riding}

@@ -14,7 +14,7 @@ use Rattle.fit_disk.specs.Stored.{at_rest}
 use Rattle.fit_disk.specs.State.{Contents, BothLeft, LeavesOnly, seen_in}
 use Rattle.fit_disk.specs.Story.{Story, Throughout, seen_of}
 use Rattle.fit_disk.proofs.Leaving.{rest_left}
-use Rattle.fit_disk.proofs.Moments.{at_end}
+use Rattle.fit_disk.proofs.Moments.{weaker, stays, then_run, at_end}
 use Rattle.fit_recorder.specs.declared.fault.RecFault.{RecFault}
 use Rattle.fit_recorder.specs.declared.fault.RecFault.TheVariants.{NotEmpty, Refused, Full, JournalFull, Device, Failed, NothingRecorded, Damaged}
 use Rattle.fit_recorder.specs.Calls.Answers.{StartAnswers}
@@ -31,7 +31,7 @@ use Rattle.fit_recorder.proofs.RecoveredList.OneList.{not_nothing}
 use Rattle.fit_histories.specs.Histories.Claims.{Claim, no_claim, whole, has_none, with_start}
 use Rattle.fit_histories.specs.Histories.Table.{History, Idle, claims_of, was_begun, ended, IsFileOf, Fault, Finds, StartStep, RecoverStep, ReopenStep, EraseStep}
 use Rattle.fit_histories.specs.Rides.Replies.{reply_of, recovered_of}
-use Rattle.fit_histories.specs.Rides.Standing.{outcome, KeepsClaim, Fits, LeavesAllowed}
+use Rattle.fit_histories.specs.Rides.Standing.{outcome, Fits, LeavesAllowed}
 use Rattle.fit_histories.proofs.Histories.Claims.{same_contents, nothing_there, list_there, not_damaged, some_list, keeps_list, keeps_whole, keeps_none, keeps_more, keeps_before, keeps_started}
 
 -- `Next` holds of a state in which no recorder runs, and a power cut leaves only what that state allows
@@ -83,17 +83,20 @@ module _ (before : History) (old : Story) (rests : LeavesAllowed (ended before) 
   -- ---- a start that is refused or broken off
 
   module _ (start : Start) (new : Story) (run : InStart start old new) where
-    broken_start : LeavesAllowed (Idle (with_start start (claims_of before)) true) new
-    broken_start contents left = record { keeps = ⊎_elim first after run.after; empty = λ unbegun. absurd (true≢false unbegun) }
-      where
-        first : new ≡ run.found → KeepsClaim (with_start start (claims_of before)) contents
-        first same =
-            let left_before = at_end (BothLeft old.now) old run.found run.before contents (subst (λ story. BothLeft story.now contents) same left) in
-            keeps_before start (claims_of before) contents (rests contents left_before).keeps
+    abbrev StartLeaves : Contents → Type 0
+    StartLeaves = Fits (Idle (with_start start (claims_of before)) true)
 
-        after : (seen_of Data old ≡ []) × Throughout (λ contents. IsNothing contents ⊎ StandsFor (Started start ∷ []) contents) run.found new → KeepsClaim (with_start start (claims_of before)) contents
-        after second =
-            keeps_started start (claims_of before) contents (empty_there second.0) (at_end (λ contents. IsNothing contents ⊎ StandsFor (Started start ∷ []) contents) run.found new second.1 contents left)
+    -- at each moment what could be left before, or nothing recorded, or the start alone
+    pub start_moments : Throughout StartLeaves old new
+    start_moments =
+        let first = weaker (BothLeft old.now) StartLeaves
+        (λ contents left. record { keeps = keeps_before start (claims_of before) contents (rests contents left).keeps; empty = λ unbegun. absurd (true≢false unbegun) })
+        old run.found run.before in
+        ⊎_elim
+        (λ same. stays StartLeaves old run.found new first same)
+        (λ second. then_run StartLeaves old run.found new first (weaker (λ contents. IsNothing contents ⊎ StandsFor (Started start ∷ []) contents) StartLeaves
+        (λ contents either. record { keeps = keeps_started start (claims_of before) contents (empty_there second.0) either; empty = λ unbegun. absurd (true≢false unbegun) })
+        run.found new second.1)) run.after
 
     not_started : (seen_of Data old ≡ [] → ⊥) → LeavesAllowed (ended before) new
     not_started some = ⊎_elim
@@ -104,7 +107,7 @@ module _ (before : History) (old : Story) (rests : LeavesAllowed (ended before) 
         → GoesIdle (StartStep before start (Fault fault)) new
     start_goes (Refused refusal) is same some = record { claims = claims_of before; begun = was_begun before; step = (is, refl); rests = subst (LeavesAllowed (ended before)) (sym (same refusal refl)) rests }
     start_goes NotEmpty is same some = record { claims = claims_of before; begun = was_begun before; step = (is, begun_there (some refl), refl); rests = not_started (some refl) }
-    start_goes Device is same some = record { claims = with_start start (claims_of before); begun = true; step = (is, refl); rests = broken_start }
+    start_goes Device is same some = record { claims = with_start start (claims_of before); begun = true; step = (is, refl); rests = at_end StartLeaves old new start_moments }
     start_goes Full none same some = absurd none
     start_goes JournalFull none same some = absurd none
     start_goes Failed none same some = absurd none
@@ -128,24 +131,24 @@ module _ (before : History) (old : Story) (rests : LeavesAllowed (ended before) 
           empty = λ unbegun. ap (λ (contents : Contents). contents.in_data) same ∙ seen_fits.empty unbegun;
         }
 
-    rebuilt_rests : (found : Story) → LeavesOnly (BothLeft old.now) found.now → Rebuilds (seen_in old.now) found new → LeavesAllowed (ended before) new
-    rebuilt_rests found first (unchanged same) contents left = same_rests new (subst (λ story. LeavesOnly (BothLeft old.now) story.now) (sym same) first) contents left
-    rebuilt_rests found first (standing body list recording commits run) contents left =
+    rebuilt : (found : Story) → Throughout (Fits (ended before)) old found → Rebuilds (seen_in old.now) found new → Throughout (Fits (ended before)) old new
+    rebuilt found first (unchanged same) = stays (Fits (ended before)) old found new first same
+    rebuilt found first (standing body list recording commits run) =
         let stood = recording_stands body list recording (seen_in old.now) commits in
-        let stands = (at_end (KeepsStanding body list) found new run contents left).1 in
-        record {
-          keeps = keeps_list (claims_of before) contents list (list_there (claims_of before) (seen_in old.now) list seen_fits.keeps stood) stands;
+        then_run (Fits (ended before)) old found new first (weaker (KeepsStanding body list) (Fits (ended before))
+        (λ contents keeps. record {
+          keeps = keeps_list (claims_of before) contents list (list_there (claims_of before) (seen_in old.now) list seen_fits.keeps stood) keeps.1;
           empty = λ unbegun. absurd (begun_by list stood unbegun);
-        }
+        }) found new run)
+
+    -- at each moment of a recovery the files are as the history allows
+    pub recovery_moments : InRecovery old new → Throughout (Fits (ended before)) old new
+    recovery_moments run =
+        let first = weaker (BothLeft old.now) (Fits (ended before)) rests old run.found run.before in
+        ⊎_elim (λ same. stays (Fits (ended before)) old run.found new first same) (λ after. rebuilt run.found first after.1) run.after
 
     settled_rests : IsSettled (seen_in old.now) new → LeavesAllowed (ended before) new
     settled_rests settled contents left = subst (Fits (ended before)) (sym (left_seen contents settled left)) seen_fits
-
-    -- one that the device broke off
-    broken_rests : InRecovery old new → LeavesAllowed (ended before) new
-    broken_rests run =
-        let first = at_end (BothLeft old.now) old run.found run.before in
-        ⊎_elim (λ same. same_rests new (subst (λ story. LeavesOnly (BothLeft old.now) story.now) (sym same) first)) (λ after. rebuilt_rests run.found first after.1) run.after
 
     pub recover_goes : (file : List ℕ) (result : Result Summary RecFault) → file ≡ seen_of Data new → RecoveryAnswers (seen_in old.now) new result → InRecovery old new
         → IfErr result (λ fault. (fault ≡ Device) ⊎ IsSettled (seen_in old.now) new)
@@ -173,7 +176,7 @@ module _ (before : History) (old : Story) (rests : LeavesAllowed (ended before) 
           rests = nothing_rests nothing (⊎_elim (λ device. absurd cc) (λ kept. kept) settled);
         }
     recover_goes file (Err Device) is answers run settled =
-        record { claims = claims_of before; begun = was_begun before; step = refl; rests = broken_rests run }
+        record { claims = claims_of before; begun = was_begun before; step = refl; rests = at_end (Fits (ended before)) old new (recovery_moments run) }
     recover_goes file (Err Damaged) is damaged run settled = absurd (not_damaged (claims_of before) (seen_in old.now) seen_fits.keeps damaged)
     recover_goes file (Err NotEmpty) is none run settled = absurd none
     recover_goes file (Err (Refused refusal)) is none run settled = absurd none
@@ -212,7 +215,7 @@ module _ (before : History) (old : Story) (rests : LeavesAllowed (ended before) 
           rests = kept_rests JournalFull (λ device. absurd cc) settled;
         }
     reopen_goes Device answers run settled =
-        record { claims = claims_of before; begun = was_begun before; step = refl; rests = broken_rests run }
+        record { claims = claims_of before; begun = was_begun before; step = refl; rests = at_end (Fits (ended before)) old new (recovery_moments run) }
     reopen_goes Damaged damaged run settled = absurd (not_damaged (claims_of before) (seen_in old.now) seen_fits.keeps damaged)
     reopen_goes NotEmpty none run settled = absurd none
     reopen_goes Full none run settled = absurd none
@@ -225,15 +228,23 @@ module _ (before : History) (old : Story) (rests : LeavesAllowed (ended before) 
         let none = rest_left new.now.data_file [] contents.in_data empty left.data_left in
         record { keeps = keeps_none [] contents (inl none); empty = λ _. none }
 
-    erase_broken : Throughout (LeftOrErased old.now) old new → (LeavesOnly IsEmpty old.now → Throughout IsEmpty old new) → LeavesAllowed (Idle (no_claim ∷ claims_of before) (was_begun before)) new
-    erase_broken run stays contents left =
-        record {
-          keeps = ⊎_elim (λ could. keeps_more no_claim (claims_of before) contents (rests contents could).keeps) (λ erased. keeps_none (claims_of before) contents (inr erased.nothing)) (at_end (LeftOrErased old.now) old new run contents left);
-          empty = λ unbegun. at_end IsEmpty old new (stays (λ c could. (rests c could).empty unbegun)) contents left;
-        }
+    abbrev ErasingLeaves : Contents → Type 0
+    ErasingLeaves = Fits (Idle (no_claim ∷ claims_of before) (was_begun before))
+
+    -- at each moment of an erasing what could be left before, or nothing recorded
+    pub erase_moments : Throughout (LeftOrErased old.now) old new → (LeavesOnly IsEmpty old.now → Throughout IsEmpty old new) → Throughout ErasingLeaves old new
+    erase_moments run stays_empty = by (was_begun before) refl
+      where
+        by : (b : Bool) → was_begun before ≡ b → Throughout ErasingLeaves old new
+        by true is = weaker (LeftOrErased old.now) ErasingLeaves (λ contents either. record {
+          keeps = ⊎_elim (λ could. keeps_more no_claim (claims_of before) contents (rests contents could).keeps) (λ erased. keeps_none (claims_of before) contents (inr erased.nothing)) either;
+          empty = λ unbegun. absurd (true≢false (sym is ∙ unbegun));
+        }) old new run
+        by false is = weaker IsEmpty ErasingLeaves (λ contents none. record { keeps = keeps_none (claims_of before) contents (inl none); empty = λ _. none }) old new
+            (stays_empty (λ contents could. (rests contents could).empty is))
 
     pub erase_goes : (file : List ℕ) (result : Result (Unit {0}) RecFault) → OnOk result (new.now.data_file ≡ at_rest []) → IfErr result (λ fault. fault ≡ Device) → Throughout (LeftOrErased old.now) old new
         → (LeavesOnly IsEmpty old.now → Throughout IsEmpty old new) → GoesIdle (λ after. EraseStep before (outcome (reply_of result) file) after) new
-    erase_goes file (Ok done) empty device run stays = record { claims = no_claim ∷ []; begun = false; step = refl; rests = erase_done empty }
-    erase_goes file (Err fault) empty device run stays =
-        rw device record { claims = no_claim ∷ claims_of before; begun = was_begun before; step = refl; rests = erase_broken run stays }
+    erase_goes file (Ok done) empty device run stays_empty = record { claims = no_claim ∷ []; begun = false; step = refl; rests = erase_done empty }
+    erase_goes file (Err fault) empty device run stays_empty =
+        rw device record { claims = no_claim ∷ claims_of before; begun = was_begun before; step = refl; rests = at_end ErasingLeaves old new (erase_moments run stays_empty) }

@@ -6,24 +6,31 @@ use Rattle.fit_activity.specs.declared.recording.entry.Entry.TheVariants.{Sample
 use Rattle.fit_activity.specs.Rides.Recording.{Recorded, Added, is_stop}
 use Rattle.fit_disk.specs.State.{Contents}
 use Rattle.fit_disk.specs.Story.{Story, Throughout}
-use Rattle.fit_disk.proofs.Moments.{begins}
+use Rattle.fit_disk.proofs.Moments.{weaker, begins}
 use Rattle.fit_recorder.specs.declared.fault.RecFault.{RecFault}
 use Rattle.fit_recorder.specs.declared.recorder.Recorder.{Recorder}
 use Rattle.fit_recorder.specs.Calls.After.{AfterCall}
 use Rattle.fit_recorder.specs.Calls.Recorder.{StandsAt, disk_of}
 use Rattle.fit_recorder.specs.Files.Body.{EitherStands, StandsFor}
-use Rattle.fit_scripts.specs.declared.command.Command.{Command}
-use Rattle.fit_scripts.specs.declared.command.Command.TheVariants as commands
+use Rattle.fit_histories.specs.declared.command.Command.{Command}
+use Rattle.fit_histories.specs.declared.command.Command.TheVariants as commands
 use Rattle.fit_histories.specs.declared.ride.Ride.TheVariants as rides
-use Rattle.fit_histories.specs.Histories.Table.{History, Idle, Riding}
+use Rattle.fit_histories.specs.Histories.Claims.{Claim}
+use Rattle.fit_histories.specs.Histories.Table.{History, Idle, Riding, ended}
 use Rattle.fit_histories.specs.Rides.Moments.{MayLeave}
 use Rattle.fit_histories.specs.Rides.Standing.{Fits, RidesOn, StandsIn}
 
+-- what may be left of a ride after its end may be left of it before
+pub unended : (before : History) (old new : Story) → Throughout (Fits (ended before)) old new → Throughout (Fits before) old new
+unended before old new = weaker (Fits (ended before)) (Fits before) (λ contents fits. record { keeps = fits.keeps; empty = fits.empty }) old new
+
 -- no recorder runs, and no call is made
-pub idle_moments : {D : Type 0} (honest : Bool) (story : D → Story) (command : Command) (disk : D) (before : History) → StandsIn honest story (rides.Idle disk) before
-    → Throughout (MayLeave before command) (story disk) (story disk)
-idle_moments honest story command disk (Idle claims begun) rests = begins (Fits (Idle claims begun)) (story disk) rests
-idle_moments honest story command disk (Riding list promise reopened failed) none = absurd none
+pub idle_moments : {D : Type 0} (honest : Bool) (story : D → Story) (command : Command)
+    → ((claims : List Claim) (begun : Bool) (contents : Contents) → Fits (Idle claims begun) contents → MayLeave (Idle claims begun) command contents)
+    → (disk : D) (before : History) → StandsIn honest story (rides.Idle disk) before → Throughout (MayLeave before command) (story disk) (story disk)
+idle_moments honest story command fits disk (Idle claims begun) rests =
+    begins (MayLeave (Idle claims begun) command) (story disk) (λ contents left. fits claims begun contents (rests contents left))
+idle_moments honest story command fits disk (Riding list promise reopened failed) none = absurd none
 
 module _ {D : Type 0} (honest : Bool) (story : D → Story) (old new : Recorder D) (result : Result (Unit {0}) RecFault) (after : AfterCall honest story result old new) where
   abbrev AtMoments : (Contents → Type 0) → Type 0

@@ -13,8 +13,8 @@ use Rattle.fit_recorder.specs.declared.recorder.Recorder.{Recorder}
 use Rattle.fit_recorder.specs.Calls.After.{AfterCall}
 use Rattle.fit_recorder.specs.Calls.Counts.{entry_calls, fewest_recovery_calls, most_body_reads, recovery_calls}
 use Rattle.fit_recorder.specs.Calls.Recovery.{IsRecoveryFault}
-use Rattle.fit_scripts.specs.declared.command.Command.{Command}
-use Rattle.fit_scripts.specs.declared.command.Command.TheVariants as commands
+use Rattle.fit_histories.specs.declared.command.Command.{Command}
+use Rattle.fit_histories.specs.declared.command.Command.TheVariants as commands
 use Rattle.fit_histories.specs.declared.reply.Reply.{Reply}
 use Rattle.fit_histories.specs.declared.reply.Reply.TheVariants.{Done}
 use Rattle.fit_histories.specs.declared.reply.Reply.TheVariants as replies

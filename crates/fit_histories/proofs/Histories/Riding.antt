@@ -26,8 +26,8 @@ use Rattle.fit_recorder.specs.Calls.Resume.{IsResumed}
 use Rattle.fit_recorder.specs.Calls.After.{CommitsAll, AddsEntry}
 use Rattle.fit_recorder.specs.Calls.Recorder.{StandsAt, WasHanded, HasEnded, disk_of, has_failed, data_len, journal_slots}
 use Rattle.fit_recorder.proofs.Commit.Standing.{has_stopped-push}
-use Rattle.fit_scripts.specs.declared.command.Command.{Command}
-use Rattle.fit_scripts.specs.declared.command.Command.TheVariants as commands
+use Rattle.fit_histories.specs.declared.command.Command.{Command}
+use Rattle.fit_histories.specs.declared.command.Command.TheVariants as commands
 use Rattle.fit_histories.specs.declared.reply.Reply.{Reply}
 use Rattle.fit_histories.specs.declared.reply.Reply.TheVariants as replies
 use Rattle.fit_histories.specs.declared.ride.Ride.TheVariants as rides

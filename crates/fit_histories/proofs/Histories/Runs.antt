@@ -11,7 +11,7 @@ use Rattle.fit_recorder.specs.declared.fault.RecFault.{RecFault}
 use Rattle.fit_recorder.specs.declared.fault.RecFault.TheVariants.{JournalFull}
 use Rattle.fit_recorder.specs.Files.NeverFull.{NeverFills}
 use Rattle.fit_disk.proofs.Leaving.{rest_left}
-use Rattle.fit_scripts.specs.declared.event.Event.{Event}
+use Rattle.fit_histories.specs.declared.event.Event.{Event}
 use Rattle.fit_histories.specs.declared.reply.Reply.{Reply}
 use Rattle.fit_histories.specs.declared.reply.Reply.TheVariants as replies
 use Rattle.fit_histories.specs.declared.ride.Ride.{Ride}

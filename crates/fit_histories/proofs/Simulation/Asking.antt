@@ -2,8 +2,8 @@
 use Rattle.std.proofs.Common.{◌≡◌, ℕ, List, refl}
 use Rattle.fit_disk.specs.Counts.{Counts, Schedule}
 use Rattle.fit_disk.specs.Story.{Story}
-use Rattle.fit_scripts.specs.declared.command.Command.{Command}
-use Rattle.fit_scripts.specs.declared.command.Command.TheVariants as commands
+use Rattle.fit_histories.specs.declared.command.Command.{Command}
+use Rattle.fit_histories.specs.declared.command.Command.TheVariants as commands
 use Rattle.fit_histories.specs.declared.reply.Reply.{Reply}
 use Rattle.fit_histories.specs.Simulation.Arranging.{Moves}
 use Rattle.fit_histories.specs.Simulation.Choices.{takes, IsLeftBy}

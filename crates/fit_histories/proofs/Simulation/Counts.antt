@@ -5,8 +5,8 @@ use Rattle.fit_disk.specs.declared.memory.Memory.{Memory}
 use Rattle.fit_disk.specs.Counts.{Counts, Schedule, FailedAsPlanned, failures, is_at, last_count, no_calls}
 use Rattle.fit_disk.specs.Memory.{memory_counts, memory_schedule, growth_was_refused, is_spent}
 use Rattle.fit_recorder.specs.declared.fault.RecFault.TheVariants.{Device}
-use Rattle.fit_scripts.specs.declared.command.Command.{Command}
-use Rattle.fit_scripts.specs.declared.command.Command.TheVariants as commands
+use Rattle.fit_histories.specs.declared.command.Command.{Command}
+use Rattle.fit_histories.specs.declared.command.Command.TheVariants as commands
 use Rattle.fit_histories.specs.declared.reply.Reply.{Reply}
 use Rattle.fit_histories.specs.declared.reply.Reply.TheVariants as replies
 use Rattle.fit_histories.specs.Simulation.Arranging.{IsPast, IsArranged, Moves}

@@ -5,8 +5,8 @@ use Rattle.fit_activity.specs.declared.recording.start.Start.{Start}
 use Rattle.fit_activity.specs.Rides.Refusal.{start_refusal}
 use Rattle.fit_disk.specs.Counts.{Counts, Schedule, FailedAsPlanned, call_number, failing_at, no_calls, unplanned}
 use Rattle.fit_recorder.specs.declared.fault.RecFault.TheVariants as faults
-use Rattle.fit_scripts.specs.declared.command.Command.{Command}
-use Rattle.fit_scripts.specs.declared.command.Command.TheVariants as commands
+use Rattle.fit_histories.specs.declared.command.Command.{Command}
+use Rattle.fit_histories.specs.declared.command.Command.TheVariants as commands
 use Rattle.fit_histories.specs.declared.reply.Reply.TheVariants as replies
 use Rattle.fit_histories.specs.Histories.Table.{History, Outcome, Done, Fault, Step, StartStep, at_first}
 use Rattle.fit_histories.specs.Rides.Standing.{IsCounted, reply_in}

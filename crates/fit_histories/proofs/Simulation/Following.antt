@@ -7,9 +7,9 @@ use Rattle.fit_disk.specs.Memory.{memory_story}
 use Rattle.fit_disk.proofs.Moments.{at_end}
 use Rattle.fit_recorder.specs.Files.Body.{StandsFor}
 use Rattle.fit_recorder.proofs.Commit.Standing.{stays_stand}
-use Rattle.fit_scripts.specs.declared.command.Command.{Command}
-use Rattle.fit_scripts.specs.declared.command.Command.TheVariants as commands
-use Rattle.fit_scripts.specs.declared.event.Event.{Event}
+use Rattle.fit_histories.specs.declared.command.Command.{Command}
+use Rattle.fit_histories.specs.declared.command.Command.TheVariants as commands
+use Rattle.fit_histories.specs.declared.event.Event.{Event}
 use Rattle.fit_histories.specs.declared.reply.Reply.{Reply}
 use Rattle.fit_histories.specs.declared.reply.Reply.TheVariants as replies
 use Rattle.fit_histories.specs.declared.ride.Ride.{Ride}

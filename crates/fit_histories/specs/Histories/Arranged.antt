@@ -1,8 +1,8 @@
 -- The device fails only if that was arranged.
 use Rattle.std.specs.Prelude.{Bool, true, false, IsTrue, ◌||◌}
 use Rattle.fit_recorder.specs.declared.fault.RecFault.TheVariants.{Device}
-use Rattle.fit_scripts.specs.declared.command.Command.{Command}
-use Rattle.fit_scripts.specs.declared.command.Command.TheVariants as commands
+use Rattle.fit_histories.specs.declared.command.Command.{Command}
+use Rattle.fit_histories.specs.declared.command.Command.TheVariants as commands
 use Rattle.fit_histories.specs.Histories.Table.{Outcome, Fault}
 
 -- `cut`: a power cut was arranged since the power last came back; `fail`: a failure was, and no call was broken off after it

@@ -6,9 +6,9 @@ use Rattle.fit_activity.specs.declared.recording.start.Start.{Start}
 use Rattle.fit_activity.specs.Rides.Recording.{Recorded, Started, Added}
 use Rattle.fit_activity.specs.Rides.Refusal.{refusal_of, start_refusal}
 use Rattle.fit_recorder.specs.declared.fault.RecFault.TheVariants.{Full}
-use Rattle.fit_scripts.specs.declared.command.Command.{Command}
-use Rattle.fit_scripts.specs.declared.command.Command.TheVariants as commands
-use Rattle.fit_scripts.specs.declared.event.Event.{Event}
+use Rattle.fit_histories.specs.declared.command.Command.{Command}
+use Rattle.fit_histories.specs.declared.command.Command.TheVariants as commands
+use Rattle.fit_histories.specs.declared.event.Event.{Event}
 use Rattle.fit_histories.specs.Histories.Runs.{IsHistory}
 use Rattle.fit_histories.specs.Histories.Table.{Outcome, Done, Stopped, Fault, HasFewRecords, IsFileOf}
 

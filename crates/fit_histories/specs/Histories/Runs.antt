@@ -4,7 +4,7 @@ use Rattle.std.specs.List.{AllByRecursion}
 use Rattle.fit_recorder.specs.declared.fault.RecFault.TheVariants.{JournalFull}
 use Rattle.fit_histories.specs.declared.answer.Answer.{Answer}
 use Rattle.fit_histories.specs.declared.answer.Answer.TheVariants as answers
-use Rattle.fit_scripts.specs.declared.event.Event.{Event}
+use Rattle.fit_histories.specs.declared.event.Event.{Event}
 use Rattle.fit_histories.specs.Histories.Arranged.{Arranged, nothing_arranged, MayFail, arranged_after}
 use Rattle.fit_histories.specs.Histories.Table.{History, at_first, Step, Outcome, Done, Stopped, Recovered, Fault, NoRecorder}
 

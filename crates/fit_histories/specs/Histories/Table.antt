@@ -13,8 +13,8 @@ use Rattle.fit_activity.specs.Messages.RideMessages.{spoken, closing}
 use Rattle.fit_recorder.specs.declared.fault.RecFault.{RecFault}
 use Rattle.fit_recorder.specs.declared.fault.RecFault.TheVariants.{NotEmpty, Refused, Full, JournalFull, Device, Failed, NothingRecorded}
 use Rattle.fit_recorder.specs.Files.Limits.{header_length, most_records}
-use Rattle.fit_scripts.specs.declared.command.Command.{Command}
-use Rattle.fit_scripts.specs.declared.command.Command.TheVariants as commands
+use Rattle.fit_histories.specs.declared.command.Command.{Command}
+use Rattle.fit_histories.specs.declared.command.Command.TheVariants as commands
 use Rattle.fit_histories.specs.Histories.Claims.{Claim, claim_of, no_claim, whole, has_none, MayBe, with_start}
 
 -- the answer to a command: a stop that is done and a recovery report the content of the data file at that moment

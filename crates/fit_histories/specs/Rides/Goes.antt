@@ -1,7 +1,7 @@
 -- What a call of a ride does over an honest disk.
 use Rattle.fit_disk.specs.Story.{Story}
 use Rattle.std.specs.Prelude.{Bool}
-use Rattle.fit_scripts.specs.declared.command.Command.{Command}
+use Rattle.fit_histories.specs.declared.command.Command.{Command}
 use Rattle.fit_histories.specs.declared.reply.Reply.{Reply}
 use Rattle.fit_histories.specs.declared.ride.Ride.{Ride}
 use Rattle.fit_histories.specs.Histories.Table.{History}

@@ -16,8 +16,8 @@ use Rattle.fit_recorder.specs.Calls.Start.{InStart}
 use Rattle.fit_recorder.specs.Calls.Recovery.{RecoveryAnswers, InRecovery, KeepsJournal}
 use Rattle.fit_recorder.specs.Calls.Resume.{IsRefusedFor, cut_after}
 use Rattle.fit_recorder.specs.Calls.Erasing.{LeftOrErased}
-use Rattle.fit_scripts.specs.declared.command.Command.{Command}
-use Rattle.fit_scripts.specs.declared.command.Command.TheVariants as commands
+use Rattle.fit_histories.specs.declared.command.Command.{Command}
+use Rattle.fit_histories.specs.declared.command.Command.TheVariants as commands
 use Rattle.fit_histories.specs.declared.reply.Reply.{Reply}
 use Rattle.fit_histories.specs.declared.reply.Reply.TheVariants as replies
 use Rattle.fit_histories.specs.Rides.Replies.{recovered_of, is_ok}

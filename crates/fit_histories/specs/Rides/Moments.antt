@@ -1,20 +1,24 @@
 -- What a power cut may leave at each moment of a call of a ride.
-use Rattle.std.specs.Prelude.{false, Bool, IsTrue, [], ◌∷◌, ◌++◌, take}
+use Rattle.std.specs.Prelude.{true, false, Bool, IsTrue, [], ◌∷◌, ◌++◌, take}
 use Rattle.fit_activity.specs.declared.recording.entry.Entry.TheVariants.{Stop}
 use Rattle.fit_activity.specs.Rides.Recording.{Added}
 use Rattle.fit_disk.specs.State.{Contents}
 use Rattle.fit_disk.specs.Story.{Story, Throughout}
 use Rattle.fit_recorder.specs.Files.Body.{EitherStands, StandsFor}
-use Rattle.fit_scripts.specs.declared.command.Command.{Command}
-use Rattle.fit_scripts.specs.declared.command.Command.TheVariants as commands
+use Rattle.fit_histories.specs.declared.command.Command.{Command}
+use Rattle.fit_histories.specs.declared.command.Command.TheVariants as commands
 use Rattle.fit_histories.specs.declared.ride.Ride.{Ride}
-use Rattle.fit_histories.specs.Histories.Table.{History, Riding}
+use Rattle.fit_histories.specs.Histories.Claims.{no_claim, with_start}
+use Rattle.fit_histories.specs.Histories.Table.{History, Idle, Riding, claims_of, was_begun}
 use Rattle.fit_histories.specs.Rides.Ride.{disk_in}
 use Rattle.fit_histories.specs.Rides.Standing.{Fits, StandsIn}
 
--- Files that stand for the list of the last commit; or in a commit for the whole list, and in a stop for that with its stop. If no recorder
--- runs, or a call failed in it, the files are as the history allows.
+-- Files that stand for the list of the last commit; or in a commit for the whole list, and in a stop for that with its stop. In a start and
+-- in an erasing the files are as the table allows if the device breaks it off; in any other command, or if a call failed in the recorder, as
+-- the history allows.
 abbrev pub MayLeave : History → Command → Contents → Type 0
+MayLeave before (commands.Start start) = Fits (Idle (with_start start (claims_of before)) true)
+MayLeave before commands.Erase = Fits (Idle (no_claim ∷ claims_of before) (was_begun before))
 MayLeave (Riding list promise reopened false) (commands.Entry (Stop time)) =
     EitherStands (take promise list) (list ++ Added (Stop time) ∷ [])
 MayLeave (Riding list promise reopened false) (commands.Entry entry) = StandsFor (take promise list)

@@ -10,9 +10,9 @@ use Rattle.fit_recorder.specs.Calls.Answers.{StartAnswers}
 use Rattle.fit_recorder.specs.Calls.Resume.{IsResumeFault}
 use Rattle.fit_histories.specs.declared.reply.Reply.{Reply}
 use Rattle.fit_histories.specs.declared.reply.Reply.TheVariants.{Done, Stopped, Recovered, Refused, NoRecorder}
-use Rattle.fit_scripts.specs.declared.command.Command.{Command}
-use Rattle.fit_scripts.specs.declared.command.Command.TheVariants as commands
-use Rattle.fit_scripts.specs.declared.event.Event.{Event}
+use Rattle.fit_histories.specs.declared.command.Command.{Command}
+use Rattle.fit_histories.specs.declared.command.Command.TheVariants as commands
+use Rattle.fit_histories.specs.declared.event.Event.{Event}
 
 abbrev pub is_ok : Reply → Bool
 is_ok Done = true

@@ -11,8 +11,8 @@ use Rattle.fit_recorder.specs.Calls.Recorder.{GoesOn, WasHanded, disk_of, has_fa
 use Rattle.fit_recorder.specs.declared.fault.RecFault.TheVariants.{Device, Failed}
 use Rattle.fit_histories.specs.declared.reply.Reply.{Reply}
 use Rattle.fit_histories.specs.declared.reply.Reply.TheVariants.{Done, Refused, NoRecorder}
-use Rattle.fit_scripts.specs.declared.command.Command.{Command}
-use Rattle.fit_scripts.specs.declared.command.Command.TheVariants as commands
+use Rattle.fit_histories.specs.declared.command.Command.{Command}
+use Rattle.fit_histories.specs.declared.command.Command.TheVariants as commands
 use Rattle.fit_histories.specs.declared.ride.Ride.{Ride}
 use Rattle.fit_histories.specs.declared.ride.Ride.TheVariants.{Idle, Riding}
 use Rattle.fit_histories.specs.Rides.Replies.{Replies}

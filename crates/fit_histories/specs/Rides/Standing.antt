@@ -14,8 +14,8 @@ use Rattle.fit_recorder.specs.Files.NothingRecorded.{IsNothing}
 use Rattle.fit_recorder.specs.Files.Body.{StandsFor}
 use Rattle.fit_recorder.specs.Calls.Counts.{empty_calls, entry_calls, erase_calls, fewest_commit_calls, fewest_recovery_calls, fewest_resume_calls, fewest_stop_calls, most_body_reads, most_commit_calls, recovery_calls, resume_calls, start_calls, stop_calls}
 use Rattle.fit_recorder.specs.Calls.Recorder.{StandsAt, disk_of, has_failed, journal_slots}
-use Rattle.fit_scripts.specs.declared.command.Command.{Command}
-use Rattle.fit_scripts.specs.declared.command.Command.TheVariants as commands
+use Rattle.fit_histories.specs.declared.command.Command.{Command}
+use Rattle.fit_histories.specs.declared.command.Command.TheVariants as commands
 use Rattle.fit_histories.specs.declared.reply.Reply.{Reply}
 use Rattle.fit_histories.specs.declared.reply.Reply.TheVariants as replies
 use Rattle.fit_histories.specs.declared.ride.Ride.{Ride}

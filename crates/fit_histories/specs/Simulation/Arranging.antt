@@ -1,8 +1,8 @@
 -- What a command does to the counts and the schedule of calls of a disk whose failures are arranged.
 use Rattle.std.specs.Prelude.{◌≡◌, ℕ, ◌≤◌, false, Option, None, Some}
 use Rattle.fit_disk.specs.Counts.{Counts, Schedule, failing_at, cut_off_at, unplanned}
-use Rattle.fit_scripts.specs.declared.command.Command.{Command}
-use Rattle.fit_scripts.specs.declared.command.Command.TheVariants as commands
+use Rattle.fit_histories.specs.declared.command.Command.{Command}
+use Rattle.fit_histories.specs.declared.command.Command.TheVariants as commands
 use Rattle.fit_histories.specs.declared.reply.Reply.{Reply}
 use Rattle.fit_histories.specs.declared.reply.Reply.TheVariants as replies
 use Rattle.fit_histories.specs.Histories.Arranged.{Arranged}

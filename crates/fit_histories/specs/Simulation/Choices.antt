@@ -3,8 +3,8 @@ use Rattle.std.specs.Prelude.{◌≡◌, ℕ, min, List, length}
 use Rattle.fit_disk.specs.Cycle.{cycled, taken_in}
 use Rattle.fit_disk.specs.State.{State}
 use Rattle.fit_disk.specs.Story.{Story}
-use Rattle.fit_scripts.specs.declared.command.Command.{Command}
-use Rattle.fit_scripts.specs.declared.command.Command.TheVariants as commands
+use Rattle.fit_histories.specs.declared.command.Command.{Command}
+use Rattle.fit_histories.specs.declared.command.Command.TheVariants as commands
 use Rattle.fit_histories.specs.declared.reply.Reply.{Reply}
 use Rattle.fit_histories.specs.Rides.Left.{LeftBy}
 

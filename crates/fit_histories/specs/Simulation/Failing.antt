@@ -4,8 +4,8 @@ use Rattle.fit_activity.specs.declared.recording.start.Start.{Start}
 use Rattle.fit_activity.specs.Rides.Refusal.{start_refusal}
 use Rattle.fit_recorder.specs.declared.fault.RecFault.TheVariants.{Device}
 use Rattle.fit_recorder.specs.Calls.Counts.{start_calls}
-use Rattle.fit_scripts.specs.declared.command.Command.TheVariants as commands
-use Rattle.fit_scripts.specs.declared.event.Event.{Event}
+use Rattle.fit_histories.specs.declared.command.Command.TheVariants as commands
+use Rattle.fit_histories.specs.declared.event.Event.{Event}
 use Rattle.fit_histories.specs.Histories.Table.{Outcome, Fault}
 use Rattle.fit_histories.specs.Simulation.Following.{FollowsChoices}
 

@@ -4,7 +4,7 @@ use Rattle.fit_disk.specs.Counts.{Counts, Schedule, FailedAsPlanned, no_calls, u
 use Rattle.fit_disk.specs.Events.{fresh}
 use Rattle.fit_disk.specs.Story.{Story, seen_of}
 use Rattle.fit_disk.specs.declared.disk.Which.TheVariants.{Data}
-use Rattle.fit_scripts.specs.declared.event.Event.{Event}
+use Rattle.fit_histories.specs.declared.event.Event.{Event}
 use Rattle.fit_histories.specs.Histories.Arranged.{Arranged, nothing_arranged, MayFail, arranged_after}
 use Rattle.fit_histories.specs.Histories.Table.{History, at_first, ended, Step, Outcome, Stopped, Recovered}
 use Rattle.fit_histories.specs.Rides.Begun.{BeginsForm}

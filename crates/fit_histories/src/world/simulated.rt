@@ -1,7 +1,7 @@
 // A ride over the memory disk. Failures and power cuts can be arranged.
 
 ghost use Rattle.std.specs.Prelude.{Bool, ◌≡◌, ◌≤◌, true, false, min, length};
-ghost use Rattle.fit_scripts.specs.declared.command.Command.TheVariants as commands;
+ghost use Rattle.fit_histories.specs.declared.command.Command.TheVariants as commands;
 ghost use Rattle.fit_histories.specs.declared.reply.Reply.TheVariants as replies;
 
 use crate::ride::Ride;

@@ -4,17 +4,17 @@ ghost use Rattle.std.specs.Prelude.{◌≡◌, ◌≤◌, true, length};
 ghost use Rattle.fit_disk.specs.Memory.{memory_story, memory_counts, memory_schedule};
 ghost use Rattle.fit_histories.specs.Simulation.Arranging.{Moves};
 ghost use Rattle.fit_histories.specs.Simulation.Choices.{takes, IsLeftBy};
-ghost use Rattle.fit_scripts.specs.Scripts.Commands.{CanRun};
+ghost use Rattle.fit_histories.specs.Commands.{CanRun};
 ghost use Rattle.fit_histories.specs.Histories.Table.{History};
 ghost use Rattle.fit_histories.specs.Rides.Ride.{CanGoOn, disk_in};
 ghost use Rattle.fit_histories.specs.Rides.NeverFull.{StaysNeverFull};
 ghost use Rattle.fit_histories.specs.Rides.Standing.{StandsIn, TakesStepFrom};
 ghost use Rattle.fit_histories.specs.Rides.Begun.{RideBeginsForm};
 
+use crate::Command;
 use crate::reply::Reply;
 use crate::ride::Ride;
 use fit_disk::Memory;
-use fit_scripts::Command;
 
 // Runs a command; a start makes a checked journal or another. Returns the ride after it, the reply, and the number of choice
 // bytes taken.

@@ -11,7 +11,7 @@ use Rattle.fit_disk.specs.Story.{Story}
 use Rattle.fit_journal.specs.CommittedLength.{Nothing, Length}
 use Rattle.fit_recorder.specs.Files.NothingRecorded.{IsNothing}
 use Rattle.fit_recorder.specs.Files.Body.{StandsFor}
-use Rattle.fit_recorder.specs.Files.Finished.{IsFinished}
+use Rattle.fit_recorder.specs.Files.Finished.{HaveFinished, IsFinished, finished}
 use Rattle.fit_recorder.specs.Calls.Recovery.{RecoveryAnswers, RecoversList}
 use Rattle.fit_recorder.specs.declared.fault.RecFault.{RecFault}
 use Rattle.fit_recorder.specs.declared.fault.RecFault.TheVariants.{NotEmpty, Refused, Full, JournalFull, Device, Failed, NothingRecorded, Damaged}
@@ -23,6 +23,12 @@ one_list list other contents stands others =
     let same : others.body ≡ stands.body = one_body contents stands.body others.body stands.commits others.commits in
     let row = one_row stands.body stands.is_body.items others.is_body.items stands.is_body.records (subst (λ body. Records body others.is_body.items) same others.is_body.records) in
     one-list list other stands.allowed others.allowed (sym stands.is_body.messages ∙ ap messages_of (sym row) ∙ others.is_body.messages)
+
+pub one_finished : (contents : Contents) (bytes others : List ℕ) → HaveFinished contents bytes → HaveFinished contents others → bytes ≡ others
+one_finished contents bytes others one other =
+    let body = one_body contents one.stood.body other.stood.body one.stood.commits other.stood.commits in
+    let list = one_list one.list other.list contents one.stood other.stood in
+    one.is ∙ ap (λ body. finished body one.list) (sym body) ∙ ap (finished other.stood.body) list ∙ sym other.is
 
 pub not_nothing : (list : List Recorded) (contents : Contents) → StandsFor list contents → IsNothing contents → ⊥
 not_nothing list contents stands nothing =

@@ -5,11 +5,12 @@ use Rattle.fit_activity.specs.Rides.Recording.{Recorded, Added}
 use Rattle.fit_disk.specs.declared.disk.Which.TheVariants.{Data}
 use Rattle.fit_disk.specs.Counts.{Log}
 use Rattle.fit_disk.specs.Runs.{MakesAll, MakesWithin}
-use Rattle.fit_disk.specs.State.{Contents}
+use Rattle.fit_disk.specs.State.{Contents, LeavesOnly}
 use Rattle.fit_disk.specs.Story.{Story, Throughout, seen_of}
 use Rattle.fit_journal.specs.Moments.{KeepsHead}
-use Rattle.fit_journal.specs.Turn.{committed_slots, fresh_slots}
+use Rattle.fit_journal.specs.Turn.{are_checked, committed_slots, fresh_slots}
 use Rattle.fit_recorder.specs.Calls.Recorder.{StandsAt, AtEach, WasHanded, GoesOn, disk_of, has_failed, data_len, data_checksum, waiting, journal_slots}
+use Rattle.fit_recorder.specs.Files.Earlier.{StandsBefore}
 use Rattle.fit_recorder.specs.Files.Header.{recorded_header}
 use Rattle.fit_recorder.specs.Files.Limits.{header_length, page_size}
 use Rattle.fit_recorder.specs.declared.fault.RecFault.{RecFault}
@@ -47,6 +48,14 @@ module _ {D : Type 0} where
   pub record CommitsAll (honest : Bool) (story : D → Story) (old new : Recorder D) : Type 0 where
     pub handed : (list : List Recorded) → WasHanded old list → WasHanded new list
     pub stands : AtEach honest story old (λ list committed. StandsAt honest story new list list)
+
+  -- In a journal with checksums the commit before the last is kept too: whatever a crash leaves stands for it without the last one.
+  abbrev pub KeepsEarlier : Bool → (D → Story) → Recorder D → Recorder D → Type 0
+  KeepsEarlier honest story old new =
+      IsTrue honest
+      → are_checked (journal_slots old) ≡ true
+      → AtEach honest story old
+      (λ list committed. LeavesOnly (StandsBefore committed) (story (disk_of new)).now)
 
   -- the journal is as it was, and so are the slots that the recorder knows
   pub record SameJournal (honest : Bool) (story : D → Story) (old new : Recorder D) : Type 0 where

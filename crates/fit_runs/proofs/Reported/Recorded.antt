@@ -2,7 +2,7 @@
 use Rattle.std.proofs.Common.{◌≡◌, ◌≢◌, ◌+◌, ◌==◌, ℕ, Bool, true, false, List, [], ◌∷◌, ◌++◌, Option, Some, None, Result, Ok, Err, length, refl, ◌∙◌, ap, append-nil, append_assoc, subst, arith, sym, inl, inr, rules}
 use Rattle.std.specs.Prelude.{IsTrue, IfSome, IsSome}
 use Rattle.std.specs.Borrow.{Bor}
-use Rattle.fit_scripts.specs.declared.command.Command.{Command}
+use Rattle.fit_histories.specs.declared.command.Command.{Command}
 use Rattle.fit_scripts.specs.Scripts.Script.{meaning_of}
 use Rattle.std.proofs.KnownBytes.{Appends-trans, Appends-nil}
 use Rattle.std.proofs.lemmas.Grind.{flat_map-append}
@@ -11,19 +11,21 @@ use Rattle.fit_activity.specs.Rides.Recording.{Recorded}
 use Rattle.fit_activity.specs.Rides.Stretch.{end_time}
 use Rattle.fit_disk.specs.Story.{Story}
 use Rattle.fit_grammar.specs.Calls.Output.{WritesText}
-use Rattle.fit_scripts.specs.declared.event.Event.{Event}
+use Rattle.fit_histories.specs.declared.event.Event.{Event}
 use Rattle.fit_files.specs.declared.fault.ReportFault.{ReportFault}
 use Rattle.fit_runs.specs.declared.recording.line_fault.LineFault.{LineFault}
 use Rattle.fit_runs.specs.declared.recording.session.Session.{Session}
 use Rattle.fit_histories.specs.declared.reply.Reply.{Reply}
-use Rattle.fit_histories.specs.Histories.Table.{History, Idle, Step, ended, Riding}
+use Rattle.fit_histories.specs.Histories.Table.{History, Idle, ended, Riding}
 use Rattle.fit_runs.specs.Rides.Dues.{Shows, times_on}
 use Rattle.fit_histories.specs.Rides.Replies.{MayReply, MayReplyAll, is_ok, rides_on}
 use Rattle.fit_histories.specs.Rides.Begun.{LeavesForm, RideBeginsForm, begun_after, begun_on}
+use Rattle.fit_histories.specs.Rides.Moments.{LeavesAtMoments}
 use Rattle.fit_histories.specs.Rides.Ride.{disk_in, is_riding, Handed}
-use Rattle.fit_histories.specs.Rides.Standing.{StandsIn, TakesStepFrom, LeavesAllowed, content_of, outcome}
+use Rattle.fit_histories.specs.Rides.Standing.{StandsIn, TakesStepFrom, LeavesAllowed, content_of}
 use Rattle.fit_runs.specs.Rides.Turns.{commit_at, Turn, Asked, Faulty, turn_text, turns_text, events_in, replies_in, refused_count, refused_in, rides_after, times_after, AnswersLine, AnswersLines, CommitsIfDue, CommitsUnlessBroken, PrintsPart, Prints, SoFar, EndsAt, GoesByTurns, LeavesByTurns}
 use Rattle.fit_runs.specs.Rides.Heard.{Heard, after_byte, after_bytes, lines_heard_in, line_of}
+use Rattle.fit_runs.specs.Rides.Played.{Passes}
 use Rattle.fit_histories.specs.declared.ride.Ride.{Ride}
 use Rattle.fit_runs.proofs.Reported.Played.{form_on}
 use Rattle.fit_histories.specs.declared.ride.Ride.TheVariants as rides
@@ -38,15 +40,15 @@ may_more riding (Asked first stated other ∷ turns) event reply last all may =
     (all.0, may_more (rides_on riding first.command stated) turns event reply last all.1 may)
 may_more riding (Faulty number fault ∷ turns) event reply last all may = may_more riding turns event reply last all may
 
-goes_more : (before middle after : History) (turns : List Turn) (event : Event) (reply : Reply) (last : ℕ) (file : List ℕ) →
-    GoesByTurns before turns middle → Step middle event.command (outcome reply file) after → EndsAt after last →
-    GoesByTurns before (turns ++ Asked event reply last ∷ []) after
-goes_more before middle after [] event reply last file goes step ends =
-    (file, after, subst (λ h. Step h event.command (outcome reply file) after) goes step, ends, refl)
-goes_more before middle after (Asked first stated other ∷ turns) event reply last file goes step ends =
-    (goes.0, goes.1, goes.2, goes.3, goes_more goes.1 middle after turns event reply last file goes.4 step ends)
-goes_more before middle after (Faulty number fault ∷ turns) event reply last file goes step ends =
-    goes_more before middle after turns event reply last file goes step ends
+goes_more : (before middle after : History) (old mid new : Story) (turns : List Turn) (event : Event) (reply : Reply) (last : ℕ) →
+    GoesByTurns before old turns middle mid → Passes middle mid event.command reply after new → EndsAt after last →
+    GoesByTurns before old (turns ++ Asked event reply last ∷ []) after new
+goes_more before middle after old mid new [] event reply last goes step ends =
+    (after, new, subst (λ story. Passes before story event.command reply after new) goes.1 (subst (λ h. Passes h mid event.command reply after new) goes.0 step), ends, (refl, refl))
+goes_more before middle after old mid new (Asked first stated other ∷ turns) event reply last goes step ends =
+    (goes.0, goes.1, goes.2, goes.3, goes_more goes.0 middle after goes.1 mid new turns event reply last goes.4 step ends)
+goes_more before middle after old mid new (Faulty number fault ∷ turns) event reply last goes step ends =
+    goes_more before middle after old mid new turns event reply last goes step ends
 
 rides_more : (riding : Bool) (turns : List Turn) (event : Event) (reply : Reply) (last : ℕ) →
     rides_after riding (turns ++ Asked event reply last ∷ []) ≡ rides_on (rides_after riding turns) event.command reply
@@ -79,12 +81,12 @@ times_more times [] more = refl
 times_more times (Asked event reply last ∷ turns) more = times_more (times_on times event.command (is_ok reply) last) turns more
 times_more times (Faulty number fault ∷ turns) more = times_more times turns more
 
-goes_same : (before after : History) (turns : List Turn) (number : ℕ) (fault : LineFault) → GoesByTurns before turns after →
-    GoesByTurns before (turns ++ Faulty number fault ∷ []) after
-goes_same before after [] number fault goes = goes
-goes_same before after (Asked event reply last ∷ turns) number fault goes =
-    (goes.0, goes.1, goes.2, goes.3, goes_same goes.1 after turns number fault goes.4)
-goes_same before after (Faulty n f ∷ turns) number fault goes = goes_same before after turns number fault goes
+goes_same : (before after : History) (old new : Story) (turns : List Turn) (number : ℕ) (fault : LineFault) → GoesByTurns before old turns after new →
+    GoesByTurns before old (turns ++ Faulty number fault ∷ []) after new
+goes_same before after old new [] number fault goes = goes
+goes_same before after old new (Asked event reply last ∷ turns) number fault goes =
+    (goes.0, goes.1, goes.2, goes.3, goes_same goes.0 after goes.1 new turns number fault goes.4)
+goes_same before after old new (Faulty n f ∷ turns) number fault goes = goes_same before after old new turns number fault goes
 
 begun_more : (begun : Bool) (turns : List Turn) (event : Event) (reply : Reply) (last : ℕ) →
     begun_after begun (events_in (turns ++ Asked event reply last ∷ [])) (replies_in (turns ++ Asked event reply last ∷ []))
@@ -109,9 +111,10 @@ module _ {D : Type 0} (honest : Bool) (story : D → Story) (every : Option ℕ)
       is_riding next.ride ≡ rides_on (is_riding session.ride) event.command reply → next.refused ≡ session.refused + refused_count (Asked event reply last) →
       Shows every (times_on (times_after [] turns) event.command (is_ok reply) last) next.clock →
       (IsTrue honest → (before : History) → StandsIn honest story session.ride before → TakesStepFrom honest story before event.command reply next.ride) →
-      ((after : History) → StandsIn honest story next.ride after → EndsAt after last) → RideBeginsForm honest story true event.command reply session.ride next.ride →
+      LeavesAtMoments honest story event.command session.ride next.ride → ((after : History) → StandsIn honest story next.ride after → EndsAt after last) →
+      RideBeginsForm honest story true event.command reply session.ride next.ride →
       SoFar honest story every old (turns ++ Asked event reply last ∷ []) next
-  so_far_asked old turns session next event reply last known may rides counts shows step ends form = record {
+  so_far_asked old turns session next event reply last known may rides counts shows step moments ends form = record {
     may = may_more false turns event reply last known.may (subst (λ riding. MayReply riding event.command reply) known.riding may);
     riding = rides ∙ ap (λ riding. rides_on riding event.command reply) known.riding ∙ sym (rides_more false turns event reply last);
     counted = omega (arith, counts, known.counted, refused_more turns (Asked event reply last ∷ []));
@@ -120,7 +123,8 @@ module _ {D : Type 0} (honest : Bool) (story : D → Story) (every : Option ℕ)
         let stood = known.stood sound claims begun rests in
         let by = step sound stood.0 stood.2 in (
           by.after,
-          goes_more (Idle claims begun) stood.0 by.after turns event reply last (content_of story next.ride) stood.1 by.step (ends by.after by.stands),
+          goes_more (Idle claims begun) stood.0 by.after old (story (disk_in session.ride)) (story (disk_in next.ride)) turns event reply last stood.1
+              (record { file = content_of story next.ride; step = by.step; any_moment = moments sound stood.0 stood.2 }) (ends by.after by.stands),
           by.stands,
           λ begun_now. form_on true (begun_after false (events_in turns) (replies_in turns)) event.command reply (story (disk_in session.ride)) (story (disk_in next.ride)) stood.3
               (form sound stood.0 stood.2) (sym (begun_more false turns event reply last) ∙ begun_now),
@@ -139,7 +143,8 @@ module _ {D : Type 0} (honest : Bool) (story : D → Story) (every : Option ℕ)
     stood = λ sound claims begun rests.
         let stood = known.stood sound claims begun rests in (
           stood.0,
-          goes_same (Idle claims begun) stood.0 turns number fault stood.1,
+          subst (λ ride. GoesByTurns (Idle claims begun) old (turns ++ Faulty number fault ∷ []) stood.0 (story (disk_in ride))) (sym same)
+              (goes_same (Idle claims begun) stood.0 old (story (disk_in session.ride)) turns number fault stood.1),
           subst (λ ride. StandsIn honest story ride stood.0) (sym same) stood.2,
           rw (events_same turns number fault, replies_same turns number fault, same) stood.3,
         );
@@ -155,8 +160,12 @@ module _ {D : Type 0} (honest : Bool) (story : D → Story) (every : Option ℕ)
         counted = counts ∙ known.counted;
         clock = rw clock known.clock;
         stood = λ sound claims begun rests.
-            let stood = known.stood sound claims begun rests in
-            (stood.0, stood.1, subst (λ ride. StandsIn honest story ride stood.0) (sym same) stood.2, rw same stood.3);
+            let stood = known.stood sound claims begun rests in (
+              stood.0,
+              subst (λ ride. GoesByTurns (Idle claims begun) old turns stood.0 (story (disk_in ride))) (sym same) stood.1,
+              subst (λ ride. StandsIn honest story ride stood.0) (sym same) stood.2,
+              rw same stood.3,
+            );
       })
 
   -- what is left if the ride is ended
@@ -165,7 +174,12 @@ module _ {D : Type 0} (honest : Bool) (story : D → Story) (every : Option ℕ)
       new ≡ story (disk_in session.ride) → LeavesByTurns honest old new turns
   left_after old new turns session known ends same sound claims begun rests =
       let stood = known.stood sound claims begun rests in
-      record { after = stood.0; goes = stood.1; rests = ends sound stood.0 stood.2; form = λ begun_now. subst (LeavesForm true) (sym same) (stood.3 begun_now) }
+      record {
+        after = stood.0;
+        goes = subst (GoesByTurns (Idle claims begun) old turns stood.0) (sym same) stood.1;
+        rests = ends sound stood.0 stood.2;
+        form = λ begun_now. subst (LeavesForm true) (sym same) (stood.3 begun_now);
+      }
 
 pub no_commit : (due : Bool) (number : ℕ) → due ≡ false → CommitsIfDue due number []
 no_commit true number none = cc

@@ -7,7 +7,7 @@ use Rattle.fit_disk.specs.Story.{Story}
 use Rattle.fit_grammar.specs.Calls.Output.{AppendsBeginning}
 use Rattle.fit_text.proofs.PenLemmas.{continues_none, continues_then, puts_written}
 use Rattle.fit_text.specs.Pen.{Written, Continues, AddsBytes}
-use Rattle.fit_scripts.specs.declared.event.Event.{Event}
+use Rattle.fit_histories.specs.declared.event.Event.{Event}
 use Rattle.fit_histories.specs.declared.reply.Reply.{Reply}
 use Rattle.fit_histories.specs.Rides.Replies.{is_ok, MayReply, rides_on, MayReplyAll, refusals}
 use Rattle.fit_runs.specs.Printed.ReplyLines.{line_text, lines_text, AreReported}

@@ -1,11 +1,11 @@
 -- The lines with the replies to events.
 use Rattle.std.specs.Prelude.{◌≡◌, ℕ, false, List, [], ◌∷◌, ◌++◌, Option, codes, decimal}
 use Rattle.std.specs.Io.KnownBytes.{Appends}
-use Rattle.fit_scripts.specs.declared.event.Event.{Event}
+use Rattle.fit_histories.specs.declared.event.Event.{Event}
 use Rattle.fit_histories.specs.declared.reply.Reply.{Reply}
 use Rattle.fit_histories.specs.declared.reply.Reply.TheVariants.{Done, Stopped, Recovered, Refused, NoRecorder}
 use Rattle.fit_recorder.specs.Calls.FaultName.{fault_name}
-use Rattle.fit_scripts.specs.Scripts.Commands.{word_of}
+use Rattle.fit_histories.specs.Commands.{word_of}
 use Rattle.fit_histories.specs.Rides.Replies.{MayReplyAll, refusals}
 use Rattle.fit_files.specs.Printed.Summary.{summary_text}
 

@@ -4,7 +4,7 @@ use Rattle.std.specs.Io.KnownBytes.{Appends}
 use Rattle.fit_grammar.specs.Calls.Output.{AppendsBeginning}
 use Rattle.std.specs.Str.{IsUtf8}
 use Rattle.std.specs.Str.Lines.{lines}
-use Rattle.fit_scripts.specs.declared.event.Event.{Event}
+use Rattle.fit_histories.specs.declared.event.Event.{Event}
 use Rattle.fit_runs.specs.declared.simulating.SimulateFault.{SimulateFault}
 use Rattle.fit_runs.specs.declared.simulating.SimulateFault.TheVariants as faults
 use Rattle.fit_histories.specs.Histories.Table.{Outcome}

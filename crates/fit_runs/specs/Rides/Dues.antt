@@ -1,8 +1,8 @@
 -- When a recording commits by itself.
 use Rattle.std.specs.Prelude.{◌≡◌, ℕ, ◌-◌, Bool, false, nat_le, List, [], ◌∷◌, take, Option, Some, None, if◌then◌else◌}
 use Rattle.fit_activity.specs.Rides.Recording.{Added, entry_time, is_stop}
-use Rattle.fit_scripts.specs.declared.command.Command.{Command}
-use Rattle.fit_scripts.specs.declared.command.Command.TheVariants as commands
+use Rattle.fit_histories.specs.declared.command.Command.{Command}
+use Rattle.fit_histories.specs.declared.command.Command.TheVariants as commands
 use Rattle.fit_runs.specs.declared.recording.clock.Clock.{Clock}
 
 -- The times since the last commit: from the time of the ride when it was asked for to the last entry that was taken, the newest first. A

@@ -4,9 +4,9 @@ use Rattle.std.specs.Io.KnownBytes.{Appends, Consumes, IsAtEnd}
 use Rattle.std.specs.List.{flat_map}
 use Rattle.fit_activity.specs.Rides.Stretch.{end_time}
 use Rattle.fit_disk.specs.Story.{Story}
-use Rattle.fit_scripts.specs.declared.command.Command.{Command}
-use Rattle.fit_scripts.specs.declared.command.Command.TheVariants.{Commit}
-use Rattle.fit_scripts.specs.declared.event.Event.{Event}
+use Rattle.fit_histories.specs.declared.command.Command.{Command}
+use Rattle.fit_histories.specs.declared.command.Command.TheVariants.{Commit}
+use Rattle.fit_histories.specs.declared.event.Event.{Event}
 use Rattle.fit_files.specs.declared.fault.ReportFault.{ReportFault}
 use Rattle.fit_files.specs.declared.fault.ReportFault.TheVariants.{Input}
 use Rattle.fit_runs.specs.declared.recording.line_fault.LineFault.{LineFault}
@@ -15,17 +15,18 @@ use Rattle.fit_scripts.specs.declared.script.fault.ScriptFaultKind.TheVariants.{
 use Rattle.fit_runs.specs.declared.recording.session.Session.{Session}
 use Rattle.fit_histories.specs.declared.reply.Reply.{Reply}
 use Rattle.fit_histories.specs.Histories.Claims.{Claim}
-use Rattle.fit_histories.specs.Histories.Table.{History, Idle, Riding, Step, ended}
+use Rattle.fit_histories.specs.Histories.Table.{History, Idle, Riding, ended}
 use Rattle.fit_runs.specs.Printed.FaultyLines.{faulty_text}
 use Rattle.fit_runs.specs.Printed.ReplyLines.{line_text}
 use Rattle.fit_runs.specs.Rides.Dues.{Shows, times_on, is_due}
+use Rattle.fit_runs.specs.Rides.Played.{Passes}
 use Rattle.fit_histories.specs.Rides.Begun.{LeavesForm, begun_after}
 use Rattle.fit_histories.specs.Rides.Replies.{MayReplyAll, is_ok, rides_on}
 use Rattle.fit_histories.specs.Rides.Ride.{disk_in, is_riding}
-use Rattle.fit_histories.specs.Rides.Standing.{StandsIn, LeavesAllowed, outcome}
+use Rattle.fit_histories.specs.Rides.Standing.{StandsIn, LeavesAllowed}
 use Rattle.fit_scripts.specs.Scripts.Faults.{IsWrong}
 use Rattle.fit_runs.specs.Rides.Heard.{lines_heard_in, lines_in}
-use Rattle.fit_scripts.specs.Scripts.Commands.{is_simulated}
+use Rattle.fit_histories.specs.Commands.{is_simulated}
 use Rattle.fit_scripts.specs.Scripts.Script.{meaning_of}
 
 -- an event was run, with this reply, and this is the last time of the ride then; or the line with this number cannot be done
@@ -172,14 +173,15 @@ abbrev pub EndsAt : History → ℕ → Type 0
 EndsAt (Riding list promise reopened false) last = last ≡ end_time list
 EndsAt _ last = Unit {0}
 
--- From `before`, the replies of these turns may come, one step after another, and `after` is the state then. Each turn has the last time
--- of the ride.
-abbrev pub GoesByTurns : History → List Turn → History → Type 0
-GoesByTurns before [] after = after ≡ before
-GoesByTurns before (Asked event reply last ∷ turns) after =
-    (file : List ℕ) × (next : History) × Step before event.command (outcome reply file) next
-    × EndsAt next last × GoesByTurns next turns after
-GoesByTurns before (Faulty number fault ∷ turns) after = GoesByTurns before turns after
+-- From `before`, the replies of these turns may come, one after another, and `after` is the state then. At each moment a power cut leaves
+-- what the command of the turn may leave after the turns before it. Each turn has the last time of the ride.
+abbrev pub GoesByTurns : History → Story → List Turn → History → Story → Type 0
+GoesByTurns before old [] after new = (after ≡ before) × (new ≡ old)
+GoesByTurns before old (Asked event reply last ∷ turns) after new =
+    (next : History) × (mid : Story) × Passes before old event.command reply next mid
+    × EndsAt next last × GoesByTurns next mid turns after new
+GoesByTurns before old (Faulty number fault ∷ turns) after new =
+    GoesByTurns before old turns after new
 
 -- a journal that a start of these turns began has checksums
 abbrev pub ChecksIfBegun : List Turn → Story → Type 0
@@ -188,17 +190,17 @@ ChecksIfBegun turns story =
 
 -- The turns came, and after the end of the recorder that runs the disk is as the history allows. A journal that a start began has
 -- checksums.
-pub record LeftByTurns (before : History) (story : Story) (turns : List Turn) : Type 0 where
+pub record LeftByTurns (before : History) (old new : Story) (turns : List Turn) : Type 0 where
   pub after : History
-  pub goes : GoesByTurns before turns after
-  pub rests : LeavesAllowed (ended after) story
-  pub form : ChecksIfBegun turns story
+  pub goes : GoesByTurns before old turns after new
+  pub rests : LeavesAllowed (ended after) new
+  pub form : ChecksIfBegun turns new
 
 -- over an honest disk, from any state without a recorder that allows the disk as it was
 abbrev pub LeavesByTurns : Bool → Story → Story → List Turn → Type 0
 LeavesByTurns honest old new turns =
     IsTrue honest → (claims : List Claim) (begun : Bool) → LeavesAllowed (Idle claims begun) old
-    → LeftByTurns (Idle claims begun) new turns
+    → LeftByTurns (Idle claims begun) old new turns
 
 -- The replies of these turns may come. Over an honest disk they are steps of a history, and the disk is as it allows.
 pub record RepliesToAll (honest : Bool) (old new : Story) (turns : List Turn) : Type 0 where
@@ -260,6 +262,7 @@ module _ {D : Type 0} where
     pub clock : Shows every (times_after [] turns) session.clock
     pub stood : IsTrue honest → (claims : List Claim) (begun : Bool)
         → LeavesAllowed (Idle claims begun) old →
-        (after : History) × GoesByTurns (Idle claims begun) turns after
+        (after : History)
+        × GoesByTurns (Idle claims begun) old turns after (story (disk_in session.ride))
         × StandsIn honest story session.ride after
         × ChecksIfBegun turns (story (disk_in session.ride))

@@ -1,11 +1,11 @@
 // When a recording commits by itself.
 
 ghost use Rattle.std.specs.Prelude.{◌≡◌, ◌-◌, ◌∷◌, [], true, false, List, ℕ, Option};
-ghost use Rattle.fit_scripts.specs.declared.command.Command.TheVariants.{Entry as AnEntry};
+ghost use Rattle.fit_histories.specs.declared.command.Command.TheVariants.{Entry as AnEntry};
 ghost use Rattle.fit_runs.specs.Rides.Dues.{Shows, times_on, oldest, is_due, is_passed};
 
 use fit_activity::Entry;
-use fit_scripts::Command;
+use fit_histories::Command;
 
 /// The times of a ride that say when it commits by itself. All times are in seconds since 1989-12-31T00:00:00Z.
 #[derive(Clone, Copy, Drop)]

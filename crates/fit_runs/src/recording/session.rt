@@ -2,12 +2,12 @@
 
 ghost use Rattle.std.specs.Prelude.{◌≡◌, ◌<◌, ◌≤◌, ◌+◌, ◌*◌, ◌^◌, ◌++◌, ◌∷◌, [], List, ℕ, Some, None, IfOk, IfErr, IfSome, IsSome, OnOk, length, false, ◌-◌, Option};
 ghost use Rattle.fit_disk.specs.Story.{Story};
-ghost use Rattle.fit_scripts.specs.declared.event.Event.{Event as AnEvent};
+ghost use Rattle.fit_histories.specs.declared.event.Event.{Event as AnEvent};
 ghost use Rattle.fit_histories.specs.declared.reply.Reply.{Reply as AReply};
 ghost use Rattle.fit_files.specs.Printed.Shown.{IsOutputFault};
 ghost use Rattle.fit_histories.specs.Rides.Ride.{CanGoOn, is_riding};
 ghost use Rattle.fit_runs.specs.Rides.Turns.{Turn, Asked, Faulty, RepliesToAll, refused_count, refused_in, TakesLine, CommitsIfDue, CommitsUnlessBroken, IsLineFault, Prints, SoFar, commit_at, is_due_after, rides_after, times_after, LeavesByTurns};
-ghost use Rattle.fit_scripts.specs.Scripts.Commands.{is_simulated};
+ghost use Rattle.fit_histories.specs.Commands.{is_simulated};
 ghost use Rattle.fit_scripts.specs.Scripts.Replayed.{IsReplayed};
 ghost use Rattle.fit_scripts.specs.Scripts.Script.{meaning_of};
 
@@ -16,8 +16,8 @@ use crate::recording::line_fault::{FaultyLine, LineFault};
 use crate::reply_line::ReplyLine;
 use fit_disk::Disk;
 use fit_files::{ReportFault, print};
-use fit_histories::{Reply, Ride};
-use fit_scripts::{Command, Event, command_at};
+use fit_histories::{Command, Event, Reply, Ride};
+use fit_scripts::command_at;
 use fit_text::Pen;
 use std::alloc::Global;
 use std::io::Write;

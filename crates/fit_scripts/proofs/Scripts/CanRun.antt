@@ -6,10 +6,10 @@ use Rattle.std.specs.List.{cons_option}
 use Rattle.std.specs.Option.{IfSome, option_and_then, option_map, option_flatten}
 use Rattle.std.specs.Str.{bytes_eq}
 use Rattle.fit_activity.specs.declared.recording.entry.Entry.TheVariants as entries
-use Rattle.fit_scripts.specs.declared.command.Command.{Command}
-use Rattle.fit_scripts.specs.declared.command.Command.TheVariants as commands
-use Rattle.fit_scripts.specs.declared.event.Event.{Event}
-use Rattle.fit_scripts.specs.Scripts.Commands.{CanRun}
+use Rattle.fit_histories.specs.declared.command.Command.{Command}
+use Rattle.fit_histories.specs.declared.command.Command.TheVariants as commands
+use Rattle.fit_histories.specs.declared.event.Event.{Event}
+use Rattle.fit_histories.specs.Commands.{CanRun}
 use Rattle.fit_scripts.specs.Scripts.Script.{number32, count, alone, only, start_line, sample_line, command_of, is_silent, event_of, events_of}
 use Rattle.fit_scripts.specs.Scripts.Words.{words}
 

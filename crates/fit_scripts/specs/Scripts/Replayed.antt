@@ -2,8 +2,8 @@
 use Rattle.std.specs.Prelude.{◌≡◌, ℕ, false, List, [], ◌∷◌, All, Option, Some, None, if◌then◌else◌}
 use Rattle.std.specs.Str.{IsUtf8}
 use Rattle.std.specs.Str.Lines.{lines}
-use Rattle.fit_scripts.specs.declared.event.Event.{Event}
-use Rattle.fit_scripts.specs.Scripts.Commands.{is_simulated}
+use Rattle.fit_histories.specs.declared.event.Event.{Event}
+use Rattle.fit_histories.specs.Commands.{is_simulated}
 use Rattle.fit_scripts.specs.declared.script.fault.ReplayFault.{ReplayFault}
 use Rattle.fit_scripts.specs.declared.script.fault.ReplayFault.TheVariants as faults
 use Rattle.fit_scripts.specs.Scripts.Faults.{IsScriptFaultOf}

@@ -8,9 +8,9 @@ use Rattle.fit_activity.specs.declared.recording.start.Sport.{Sport}
 use Rattle.fit_activity.specs.declared.recording.start.Sport.TheVariants.{Generic, Running, Cycling}
 use Rattle.fit_activity.specs.declared.recording.entry.Entry.{Entry}
 use Rattle.fit_activity.specs.declared.recording.entry.Entry.TheVariants as entries
-use Rattle.fit_scripts.specs.declared.command.Command.{Command}
-use Rattle.fit_scripts.specs.declared.command.Command.TheVariants as commands
-use Rattle.fit_scripts.specs.declared.event.Event.{Event}
+use Rattle.fit_histories.specs.declared.command.Command.{Command}
+use Rattle.fit_histories.specs.declared.command.Command.TheVariants as commands
+use Rattle.fit_histories.specs.declared.event.Event.{Event}
 use Rattle.fit_scripts.specs.Scripts.Words.{words, decimal_number}
 use Rattle.fit_scripts.specs.Scripts.Sample.{are_settings, sample_at}
 

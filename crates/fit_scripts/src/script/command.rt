@@ -4,14 +4,14 @@ ghost use Rattle.std.specs.Prelude.{◌≡◌, map, if◌then◌else◌, IfErr};
 ghost use Rattle.std.specs.Result.{result_ok};
 ghost use Rattle.fit_scripts.specs.Scripts.Faults.{only_fault, start_fault, sample_fault, arranged_fault, called_fault, timed_fault, command_fault};
 ghost use Rattle.fit_scripts.specs.Scripts.Script.{number32, count, sport_named, alone, only, start_line, sample_line, arranged_of, called_of, timed_of, command_of};
-ghost use Rattle.fit_scripts.specs.declared.command.Command.TheVariants as commands;
+ghost use Rattle.fit_histories.specs.declared.command.Command.TheVariants as commands;
 ghost use Rattle.fit_scripts.specs.declared.script.fault.ScriptFaultKind.TheVariants as kinds;
 
-use crate::command::Command;
 use crate::script::fault::ScriptFaultKind;
 use crate::script::number::number;
 use crate::script::sample::sample_at;
 use fit_activity::{Entry, Sport, Start};
+use fit_histories::Command;
 
 /// The command that the words of a line state. Words are judged from left to right, and the first fault is reported.
 pub fn command_of(words: &[&[u8]]) -> Result<Command, ScriptFaultKind>

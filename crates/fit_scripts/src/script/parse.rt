@@ -5,14 +5,13 @@ ghost use Rattle.std.specs.List.{cons_option};
 ghost use Rattle.std.specs.Str.Lines.{lines};
 ghost use Rattle.fit_scripts.specs.Scripts.Faults.{IsScriptFaultOf, IsWrong};
 ghost use Rattle.fit_scripts.specs.Scripts.Script.{IsLine, is_silent, meaning_of, event_of, events_of};
-ghost use Rattle.fit_scripts.specs.Scripts.Commands.{CanRun};
+ghost use Rattle.fit_histories.specs.Commands.{CanRun};
 ghost use Rattle.fit_scripts.specs.declared.script.fault.ScriptFaultKind.TheVariants as kinds;
 
-use crate::command::Command;
-use crate::event::Event;
 use crate::script::command::command_of;
 use crate::script::fault::{ScriptFault, ScriptFaultKind};
 use crate::script::words::{lines_of, words_of};
+use fit_histories::{Command, Event};
 use std::alloc::Global;
 
 /// The events of a script, each with the number of its line, counted from 1. A line without words is no event, nor is one whose

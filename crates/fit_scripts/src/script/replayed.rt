@@ -5,9 +5,9 @@ ghost use Rattle.std.specs.Str.Lines.{lines};
 ghost use Rattle.fit_scripts.specs.Scripts.Script.{events_of};
 ghost use Rattle.fit_scripts.specs.Scripts.Replayed.{IsReplayed, first_simulated, IsReplayFault};
 
-use crate::event::Event;
 use crate::script::fault::ReplayFault;
 use crate::script::parse::parse_script;
+use fit_histories::Event;
 use std::alloc::Global;
 use std::str;
 

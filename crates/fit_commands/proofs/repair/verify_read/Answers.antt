@@ -2,10 +2,10 @@ use Rattle.std.proofs.Common.{ℕ, List, Option, Result, Ok, Err, IfOk, inr}
 use Rattle.std.specs.Borrow.{Bor}
 use Rattle.fit_disk.specs.State.{Contents, seen_in}
 use Rattle.fit_disk.specs.Story.{Story}
-use Rattle.fit_files.specs.Calls.Rereading.{AreSumsOf}
-use Rattle.fit_files.specs.Printed.Repaired.{Repairs}
-use Rattle.fit_files.specs.declared.repairing.FileSums.{FileSums}
-use Rattle.fit_files.specs.declared.repairing.RepairFault.{RepairFault}
+use Rattle.fit_recordings.specs.Rereading.{AreSumsOf}
+use Rattle.fit_recordings.specs.Repaired.{Repairs}
+use Rattle.fit_recordings.specs.declared.repairing.FileSums.{FileSums}
+use Rattle.fit_recordings.specs.declared.repairing.RepairFault.{RepairFault}
 use Rattle.fit_commands.specs.Faults.{AnswersRepair}
 use Rattle.fit_commands.specs.Reported.{VerifiesFolder}
 use Rattle.fit_commands.specs.declared.fault.Fault.{Fault}

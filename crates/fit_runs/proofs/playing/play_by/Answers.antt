@@ -21,7 +21,7 @@ loop-event-preserved g c =
     let stated = known.so_far.0 in
     let rode =
     rode_on c.args.checked g.D.Disk.honest g.D.Disk.story (g.D.Disk.story c.args.disk) c.args.events.now c.loop-event.event-index _ stated c.loop-event.ride
-    c.ask-next.result.0 c.ask-next.result.1 c.loop-event-test.true known.so_far.2 (λ honest. (ran.goes honest).step) ran.form in
+    c.ask-next.result.0 c.ask-next.result.1 c.loop-event-test.true known.so_far.2 (λ honest. (ran.goes honest).step) ran.any_moment ran.form in
     elim c.if-not-is_ok.branch [
       | then-not-is_ok w ↦ record {
         goes_on = ran.goes_on;
@@ -67,5 +67,5 @@ returns-in-Err-clause-broken_off g c =
     c.loop-event.invariant.waits so_far.1 c.ask-next.ensures.reply c.in-Err.ensures.line.beginning
     (some_left c.args.checked honest story (story c.args.disk) _ events (drop (i + 1) events) stated c.ask-next.result.0
     (rode_on c.args.checked honest story (story c.args.disk) events i _ so_far.0 c.loop-event.ride c.ask-next.result.0 c.ask-next.result.1
-    c.loop-event-test.true so_far.2 (λ honest. (c.ask-next.ensures.goes honest).step) c.ask-next.ensures.form)
+    c.loop-event-test.true so_far.2 (λ honest. (c.ask-next.ensures.goes honest).step) c.ask-next.ensures.any_moment c.ask-next.ensures.form)
     c.into_disk.ensures.rests (ap story c.into_disk.ensures.disk))

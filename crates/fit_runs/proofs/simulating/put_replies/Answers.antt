@@ -2,7 +2,7 @@ use Rattle.std.proofs.Common.{◌≡◌, ◌<◌, ◌≤◌, ◌+◌, ◌++◌, 
 use Rattle.std.proofs.lemmas.List.{drop_more, drop_all}
 use Rattle.fit_text.proofs.PenLemmas.{Leaves, leaves_less, leaves_none, leaves_off, puts_same, puts_then}
 use Rattle.fit_text.specs.Pen.{Written, Puts}
-use Rattle.fit_scripts.specs.declared.event.Event.{Event}
+use Rattle.fit_histories.specs.declared.event.Event.{Event}
 use Rattle.fit_files.specs.declared.fault.ReportFault.{ReportFault}
 use Rattle.fit_histories.specs.declared.reply.Reply.{Reply}
 use Rattle.fit_runs.specs.Printed.ReplyLines.{line_text, lines_text}

@@ -2,8 +2,8 @@ use Rattle.std.proofs.Common.{◌∙◌, map, drop, arith}
 use Rattle.fit_table.proofs.NamedLemmas.{seen, no_field, read_no_field}
 use Rattle.fit_table.proofs.named.cell_of.Goals as goal
 
-pub returns-in_default : goal.returns-in_default
-returns-in_default c = record {
+pub returns-in_default-clause-cell : goal.returns-in_default-clause-cell
+returns-in_default-clause-cell c = record {
   inside = omega arith;
   holds = λ arch content.
       c.loop-fields_left.invariant.rest arch content

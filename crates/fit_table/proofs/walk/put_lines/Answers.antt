@@ -1,11 +1,10 @@
-use Rattle.std.proofs.Common.{◌≡◌, ◌∷◌, [], length, map, ap, sym, ◌∙◌, subst, arith}
+use Rattle.std.proofs.Common.{◌≡◌, ◌∷◌, [], length, map, ap, sym, ◌∙◌, arith}
 use Rattle.fit_grammar.proofs.Counted.{few_messages}
 use Rattle.fit_grammar.specs.Format.Item.{Defines}
 use Rattle.fit_grammar.specs.Format.Message.{messages_of}
 use Rattle.fit_grammar.specs.Format.Records.{in_force}
 use Rattle.fit_grammar.specs.Calls.LentItem.{lent_item, messages_in}
 use Rattle.fit_grammar.specs.Calls.Table.{in_force_after}
-use Rattle.fit_table.specs.NamedPlans.{AreCellsFor}
 use Rattle.fit_table.proofs.NamedLemmas.{name_of}
 use Rattle.fit_table.proofs.TokenLemmas.{begin_tokens, less_tokens, off_tokens}
 use Rattle.fit_table.proofs.LineLemmas.{next_line, other_line}
@@ -89,12 +88,11 @@ put-requires g c =
         c.args.known.now,
         map name_of c.args.names.now,
         c.loop-item.next,
-        subst (λ cells. AreCellsFor c.args.known.now (map name_of c.args.names.now) c.loop-item.next found.definition cells) (sym c.as_slice-cells.ensures.value)
-            ((c.settle-in-Data.ensures.cells definition_for under.1 kept.named).are found.local found.definition c.get.result.now c.get.ensures under.1),
+        (c.settle-in-Data.ensures.cells definition_for under.1 kept.named).are found.local found.definition c.get-cells.result.now c.get-cells.ensures under.1,
       );
       numbers = rw c.requires.fields at c.codes_of-codes.ensures.small;
       plan = rw (← c.requires.fields, ← c.codes_of-codes.ensures.same, ← c.as_slice-codes.ensures.value)
-          (plans found.local found.definition c.get-in-Data.result.now c.get-in-Data.ensures under.1).0;
+          (plans found.local found.definition c.get-plan.result.now c.get-plan.ensures under.1).0;
     }
 
 pub loop-item-preserved : goal.loop-item-preserved
@@ -106,7 +104,7 @@ loop-item-preserved g c =
     let under = rw steps at kept.under in
     let is = sym c.global.ensures ∙ c.if-global-message.false in
     let named = c.settle-in-Data.ensures.cells definition_for under.1 kept.named in
-    let cells = subst (λ cells. AreCellsFor c.args.known.now (map name_of c.args.names.now) c.loop-item.next found.definition cells) (sym c.as_slice-cells.ensures.value) (named.are found.local found.definition c.get.result.now c.get.ensures under.1) in (
+    let cells = named.are found.local found.definition c.get-cells.result.now c.get-cells.ensures under.1 in (
       definition_for,
       record {
         under = under.2;
@@ -127,8 +125,7 @@ returns-in_err-put-in-Data g c =
     let definition_for = c.loop-item.invariant.0 in
     let under = rw steps at kept.under in
     let is = sym c.global.ensures ∙ c.if-global-message.false in
-    let cells = subst (λ cells. AreCellsFor c.args.known.now (map name_of c.args.names.now) c.loop-item.next found.definition cells) (sym c.as_slice-cells.ensures.value)
-    ((c.settle-in-Data.ensures.cells definition_for under.1 kept.named).are found.local found.definition c.get.result.now c.get.ensures under.1) in
+    let cells = (c.settle-in-Data.ensures.cells definition_for under.1 kept.named).are found.local found.definition c.get-cells.result.now c.get-cells.ensures under.1 in
     off_tokens _ c.from_residual.ensures.0 (rw steps at kept.put) (c.in_err-put-in-Data.ensures c.args.known.now (map name_of c.args.names.now) c.loop-item.next cells)
     (next_line (g.L.Line.tokens c.args.line.now c.args.known.now (map name_of c.args.names.now)) c.args.message c.loop-item.next found.definition c.in-Data.time
     found.content.now (messages_in c.next.new.self) is)

@@ -9,7 +9,7 @@ use Rattle.fit_histories.proofs.Histories.NeverFull.{rides_on}
 use Rattle.fit_histories.proofs.Histories.Riding.{commit_goes, never_full}
 use Rattle.fit_histories.proofs.Histories.Left.{kept_if_refused}
 use Rattle.fit_histories.proofs.Histories.Begun.{called_form}
-use Rattle.fit_scripts.specs.declared.command.Command.TheVariants as commands
+use Rattle.fit_histories.specs.declared.command.Command.TheVariants as commands
 use Rattle.fit_histories.proofs.Histories.Moments.{commit_moments, idle_moments}
 use Rattle.fit_histories.proofs.ride.Ride.commit.Goals as goal
 
@@ -72,7 +72,7 @@ returns-in-Riding-clause-called g c =
 pub returns-in-Idle-clause-any_moment : goal.returns-in-Idle-clause-any_moment
 returns-in-Idle-clause-any_moment g c honest before stands =
     let here = rw c.in-Idle.is at stands in
-    rw c.in-Idle.is (idle_moments g.D.Disk.honest g.D.Disk.story commands.Commit _ before here)
+    rw c.in-Idle.is (idle_moments g.D.Disk.honest g.D.Disk.story commands.Commit (λ claims begun contents fits. fits) _ before here)
 
 pub returns-in-Riding-clause-any_moment : goal.returns-in-Riding-clause-any_moment
 returns-in-Riding-clause-any_moment g c honest before stands =

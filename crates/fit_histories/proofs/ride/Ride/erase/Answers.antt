@@ -2,10 +2,10 @@ use Rattle.std.proofs.Common.{◌∙◌, ap, refl, subst, sym}
 use Rattle.fit_histories.proofs.Histories.NeverFull.{erasing_not_full, erased_fills}
 use Rattle.fit_disk.specs.Story.{seen_of}
 use Rattle.fit_disk.specs.declared.disk.Which.TheVariants.{Data}
-use Rattle.fit_histories.proofs.Histories.Idle.{erase_goes}
+use Rattle.fit_histories.proofs.Histories.Idle.{erase_goes, erase_moments}
 use Rattle.fit_histories.proofs.Histories.Riding.{idle_goes}
 use Rattle.fit_histories.proofs.Histories.Replies.{counted_by, done_of_call, erase_ran}
-use Rattle.fit_scripts.specs.declared.command.Command.TheVariants as commands
+use Rattle.fit_histories.specs.declared.command.Command.TheVariants as commands
 use Rattle.fit_histories.specs.Rides.Standing.{IsCounted}
 use Rattle.fit_histories.proofs.ride.Ride.erase.Goals as goal
 
@@ -43,3 +43,8 @@ returns-clause-called g c =
           (erase_ran c.erase.result _ _ done.fault done.ran) (λ fault. refl) done.fewest);
       planned = done.ran.planned ∙ ap (λ disk. (g.D.Disk.log disk).schedule) c.into_disk-disk.ensures.disk;
     }
+
+pub returns-clause-any_moment : goal.returns-clause-any_moment
+returns-clause-any_moment g c honest before stands =
+    rw (← c.into_disk-disk.ensures.disk) (erase_moments before (g.D.Disk.story c.into_disk-disk.result) (c.into_disk-disk.ensures.rests honest before stands)
+    (g.met.D.Disk.sound c.into_disk-disk.result honest) (g.D.Disk.story c.erase.new.disk) (c.erase.ensures.any_moment honest) (c.erase.ensures.stays_empty honest))

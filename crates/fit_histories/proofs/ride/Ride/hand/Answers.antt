@@ -8,7 +8,7 @@ use Rattle.fit_histories.proofs.Histories.NeverFull.{on_ok_of, rides_on}
 use Rattle.fit_histories.proofs.Histories.Riding.{hand_goes}
 use Rattle.fit_histories.proofs.Histories.Left.{kept_if_refused}
 use Rattle.fit_histories.proofs.Histories.Begun.{same_form}
-use Rattle.fit_scripts.specs.declared.command.Command.TheVariants as commands
+use Rattle.fit_histories.specs.declared.command.Command.TheVariants as commands
 use Rattle.fit_histories.proofs.Histories.Moments.{hand_moments, idle_moments}
 use Rattle.fit_histories.proofs.ride.Ride.hand.Goals as goal
 
@@ -64,7 +64,7 @@ returns-in-Riding-clause-form g c checked honest before stands =
 pub returns-in-Idle-clause-any_moment : goal.returns-in-Idle-clause-any_moment
 returns-in-Idle-clause-any_moment g c honest before stands =
     let here = rw c.in-Idle.is at stands in
-    rw c.in-Idle.is (idle_moments g.D.Disk.honest g.D.Disk.story (commands.Entry c.args.entry.now) _ before here)
+    rw c.in-Idle.is (idle_moments g.D.Disk.honest g.D.Disk.story (commands.Entry c.args.entry.now) (λ claims begun contents fits. fits) _ before here)
 
 pub returns-in-Riding-clause-any_moment : goal.returns-in-Riding-clause-any_moment
 returns-in-Riding-clause-any_moment g c honest before stands =

@@ -2,12 +2,13 @@ use Rattle.std.proofs.Common.{◌∙◌, ap, refl, subst, sym}
 use Rattle.fit_histories.proofs.Histories.NeverFull.{recovery_not_full, recovered_fills}
 use Rattle.fit_disk.specs.Story.{seen_of}
 use Rattle.fit_disk.specs.declared.disk.Which.TheVariants.{Data}
-use Rattle.fit_histories.proofs.Histories.Idle.{recover_goes}
+use Rattle.fit_histories.proofs.Histories.Idle.{recover_goes, recovery_moments}
 use Rattle.fit_histories.proofs.Histories.Replies.{recovery_counted, replies_recovery}
 use Rattle.fit_histories.proofs.Histories.Riding.{idle_goes}
 use Rattle.fit_histories.proofs.Histories.Begun.{synced_form}
-use Rattle.fit_scripts.specs.declared.command.Command.TheVariants as commands
+use Rattle.fit_histories.specs.declared.command.Command.TheVariants as commands
 use Rattle.fit_histories.specs.Rides.Standing.{IsCounted}
+use Rattle.fit_histories.proofs.Histories.Moments.{unended}
 use Rattle.fit_histories.proofs.ride.Ride.recover.Goals as goal
 
 pub returns-clause-goes : goal.returns-clause-goes
@@ -55,3 +56,8 @@ returns-clause-called g c =
           (recovery_counted c.recover.result c.into-reply.result (g.D.Disk.log c.into_disk-disk.result) (g.D.Disk.log c.recover.new.disk) c.into-reply.ensures done.ran done.fewest);
       planned = done.ran.planned ∙ ap (λ disk. (g.D.Disk.log disk).schedule) c.into_disk-disk.ensures.disk;
     }
+
+pub returns-clause-any_moment : goal.returns-clause-any_moment
+returns-clause-any_moment g c honest before stands =
+    rw (← c.into_disk-disk.ensures.disk) (unended before _ _ (recovery_moments before (g.D.Disk.story c.into_disk-disk.result) (c.into_disk-disk.ensures.rests honest before stands)
+    (g.met.D.Disk.sound c.into_disk-disk.result honest) (g.D.Disk.story c.recover.new.disk) (c.recover.ensures.any_moment honest)))

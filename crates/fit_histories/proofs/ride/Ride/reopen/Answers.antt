@@ -1,9 +1,10 @@
 use Rattle.std.proofs.Common.{◌∙◌, sym, true≢false}
 use Rattle.fit_histories.proofs.Histories.NeverFull.{resumed_turns, resume_not_full, recovered_fills}
-use Rattle.fit_histories.proofs.Histories.Idle.{reopen_goes}
+use Rattle.fit_histories.proofs.Histories.Idle.{reopen_goes, recovery_moments}
 use Rattle.fit_histories.proofs.Histories.Riding.{idle_goes, reopened_goes}
 use Rattle.fit_recorder.specs.Calls.Recorder.{disk_of}
 use Rattle.fit_histories.proofs.Histories.Begun.{synced_form}
+use Rattle.fit_histories.proofs.Histories.Moments.{unended}
 use Rattle.fit_histories.proofs.ride.Ride.reopen.Goals as goal
 
 pub returns-in-Ok-clause-goes : goal.returns-in-Ok-clause-goes
@@ -64,3 +65,13 @@ returns-in-Ok-clause-form g c checked honest before stands =
 pub returns-in-Err-clause-form : goal.returns-in-Err-clause-form
 returns-in-Err-clause-form g c checked honest before stands =
     rw (← c.into_disk.ensures.disk) (λ form. synced_form checked (g.D.Disk.story c.into_disk.result) (g.D.Disk.story c.in-Err.kept) (g.met.D.Disk.sound c.into_disk.result honest) form (c.in-Err.ensures.journal honest))
+
+pub returns-in-Ok-clause-any_moment : goal.returns-in-Ok-clause-any_moment
+returns-in-Ok-clause-any_moment g c honest before stands =
+    rw (← c.into_disk.ensures.disk) (unended before _ _ (recovery_moments before (g.D.Disk.story c.into_disk.result) (c.into_disk.ensures.rests honest before stands)
+    (g.met.D.Disk.sound c.into_disk.result honest) (g.D.Disk.story (disk_of c.in-Ok.resumed)) (c.in-Ok.ensures.any_moment honest)))
+
+pub returns-in-Err-clause-any_moment : goal.returns-in-Err-clause-any_moment
+returns-in-Err-clause-any_moment g c honest before stands =
+    rw (← c.into_disk.ensures.disk) (unended before _ _ (recovery_moments before (g.D.Disk.story c.into_disk.result) (c.into_disk.ensures.rests honest before stands)
+    (g.met.D.Disk.sound c.into_disk.result honest) (g.D.Disk.story c.in-Err.kept) (c.in-Err.ensures.any_moment honest)))

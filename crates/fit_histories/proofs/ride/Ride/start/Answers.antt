@@ -2,10 +2,11 @@ use Rattle.std.proofs.Common.{◌∙◌, ap, sym, true≢false}
 use Rattle.fit_journal.specs.Turn.{fresh_slots, slots_left}
 use Rattle.fit_recorder.proofs.Commit.Slots.{committed_turns, fresh_left}
 use Rattle.fit_histories.proofs.Histories.NeverFull.{start_not_full}
-use Rattle.fit_histories.proofs.Histories.Idle.{empty_there, start_goes}
+use Rattle.fit_histories.proofs.Histories.Idle.{empty_there, start_goes, start_moments}
 use Rattle.fit_histories.proofs.Histories.Riding.{idle_goes, started_goes}
 use Rattle.fit_histories.proofs.Histories.Left.{start_refused}
 use Rattle.fit_histories.proofs.Histories.Begun.{started_form, refused_form}
+use Rattle.fit_recorder.specs.Calls.Recorder.{disk_of}
 use Rattle.fit_histories.proofs.ride.Ride.start.Goals as goal
 
 pub returns-in-Ok-clause-goes : goal.returns-in-Ok-clause-goes
@@ -55,3 +56,13 @@ returns-in-Err-clause-form g c honest before stands =
     rw (← c.into_disk.ensures.disk)
     (refused_form c.args.checked c.args.start (g.D.Disk.story c.into_disk.result) (g.D.Disk.story c.in-Err.disk) c.in-Err.fault refused.answers (λ refusal is. ap g.D.Disk.story (refused.handed_back.same refusal is))
     (λ is. (refused.handed_back.not_empty honest is).0) (refused.any_moment honest))
+
+pub returns-in-Ok-clause-any_moment : goal.returns-in-Ok-clause-any_moment
+returns-in-Ok-clause-any_moment g c honest before stands =
+    rw (← c.into_disk.ensures.disk) (start_moments before (g.D.Disk.story c.into_disk.result) (c.into_disk.ensures.rests honest before stands) (g.met.D.Disk.sound c.into_disk.result honest)
+    c.args.start (g.D.Disk.story (disk_of c.in-Ok.recorder)) (c.in-Ok.ensures.any_moment honest))
+
+pub returns-in-Err-clause-any_moment : goal.returns-in-Err-clause-any_moment
+returns-in-Err-clause-any_moment g c honest before stands =
+    rw (← c.into_disk.ensures.disk) (start_moments before (g.D.Disk.story c.into_disk.result) (c.into_disk.ensures.rests honest before stands) (g.met.D.Disk.sound c.into_disk.result honest)
+    c.args.start (g.D.Disk.story c.in-Err.disk) (c.in-Err.ensures.any_moment honest))

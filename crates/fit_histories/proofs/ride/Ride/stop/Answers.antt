@@ -9,7 +9,7 @@ use Rattle.fit_recorder.specs.Calls.Recorder.{disk_of}
 use Rattle.fit_histories.proofs.Histories.Begun.{called_form}
 use Rattle.fit_histories.proofs.Histories.Moments.{idle_moments, stop_moments}
 use Rattle.fit_activity.specs.declared.recording.entry.Entry.TheVariants.{Stop}
-use Rattle.fit_scripts.specs.declared.command.Command.TheVariants as commands
+use Rattle.fit_histories.specs.declared.command.Command.TheVariants as commands
 use Rattle.fit_histories.proofs.ride.Ride.stop.Goals as goal
 
 pub returns-in-Ok-clause-replies : goal.returns-in-Ok-clause-replies
@@ -78,7 +78,7 @@ returns-in-Err-clause-form g c checked honest before stands =
 pub returns-in-Idle-clause-any_moment : goal.returns-in-Idle-clause-any_moment
 returns-in-Idle-clause-any_moment g c honest before stands =
     let here = rw c.in-Idle.is at stands in
-    rw c.in-Idle.is (idle_moments g.D.Disk.honest g.D.Disk.story (commands.Entry (Stop c.args.time)) _ before here)
+    rw c.in-Idle.is (idle_moments g.D.Disk.honest g.D.Disk.story (commands.Entry (Stop c.args.time)) (λ claims begun contents fits. fits) _ before here)
 
 pub returns-in-Ok-clause-any_moment : goal.returns-in-Ok-clause-any_moment
 returns-in-Ok-clause-any_moment g c honest before stands =

@@ -5,9 +5,9 @@ use Rattle.std.specs.List.{cons_option}
 use Rattle.fit_scripts.specs.Scripts.Faults.{IsFirstFault, IsReached, IsWrong}
 use Rattle.fit_scripts.specs.Scripts.Script.{IsLine, event_of, events_of}
 use Rattle.fit_scripts.specs.declared.script.fault.ScriptFaultKind.{ScriptFaultKind}
-use Rattle.fit_scripts.specs.declared.event.Event.{Event}
+use Rattle.fit_histories.specs.declared.event.Event.{Event}
 use Rattle.fit_scripts.specs.declared.script.fault.ScriptFault.{ScriptFault}
-use Rattle.fit_scripts.specs.Scripts.Commands.{CanRun}
+use Rattle.fit_histories.specs.Commands.{CanRun}
 use Rattle.fit_scripts.proofs.Scripts.CanRun.{events_can}
 use Rattle.fit_scripts.proofs.Scripts.Lines.{now_at, within_now, events_next}
 use Rattle.fit_scripts.proofs.script.parse.parse_script.Goals as goal

@@ -1,8 +1,8 @@
 use Rattle.std.proofs.Common.{◌≡◌, ◌+◌, ◌<◌, All, List, ℕ, length, drop, get_or, false, refl, sym, ◌∙◌, subst, arith, add-one, drop-cons}
 use Rattle.std.proofs.lemmas.List.{take_all}
 use Rattle.std.proofs.lemmas.List.Elements.{All-more}
-use Rattle.fit_scripts.specs.declared.event.Event.{Event}
-use Rattle.fit_scripts.specs.Scripts.Commands.{is_simulated}
+use Rattle.fit_histories.specs.declared.event.Event.{Event}
+use Rattle.fit_histories.specs.Commands.{is_simulated}
 use Rattle.fit_scripts.specs.Scripts.Replayed.{IsReplayed, first_simulated}
 use Rattle.fit_scripts.proofs.script.replayed.first_simulated.Goals as goal
 

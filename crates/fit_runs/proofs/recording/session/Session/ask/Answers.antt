@@ -13,7 +13,7 @@ returns-clause-asked g c = λ every old turns known.
       reply,
       last,
       so_far_asked g.D.Disk.honest g.D.Disk.story every old turns c.args.self _ c.args.event.now reply last known ran.reply ran.riding
-          (omega (arith, c.refusals.ensures.count c.args.event.now last)) (noted.shows every (times_after [] turns) known.clock) (λ honest. (ran.goes honest).step)
+          (omega (arith, c.refusals.ensures.count c.args.event.now last)) (noted.shows every (times_after [] turns) known.clock) (λ honest. (ran.goes honest).step) ran.any_moment
           (λ after. ends_at g.D.Disk.honest g.D.Disk.story c.ask-ride.result.0 after last c.last_time.ensures) ran.form,
       noted.due every (times_after [] turns) known.clock,
       prints_one _ _ _ (Asked c.args.event.now reply last)

@@ -1,0 +1,26 @@
+# For find_package(fitrec): the target fitrec::device has the header of a recorder in a device, and the file of release/ for the processor.
+#
+# FITREC_PROCESSOR says which, if CMAKE_SYSTEM_PROCESSOR does not: x86_64, aarch64, cortex-m0plus, cortex-m4 (which a Cortex-M7, and an M33 with DSP
+# instructions, take too), or rv32imac. FITREC_FILE is the path of another, such as device/build makes.
+get_filename_component(fitrec_root "${CMAKE_CURRENT_LIST_DIR}/.." ABSOLUTE)
+if(NOT FITREC_PROCESSOR)
+    set(FITREC_PROCESSOR "${CMAKE_SYSTEM_PROCESSOR}")
+endif()
+if(NOT FITREC_FILE)
+    if(FITREC_PROCESSOR MATCHES "^(x86_64|AMD64)$")
+        set(FITREC_FILE "${fitrec_root}/release/libfit_device.a")
+    elseif(FITREC_PROCESSOR MATCHES "^(aarch64|arm64)$")
+        set(FITREC_FILE "${fitrec_root}/release/libfit_device-aarch64.a")
+    elseif(FITREC_PROCESSOR MATCHES "^cortex-m(7|33)$")
+        set(FITREC_FILE "${fitrec_root}/release/fitrec-cortex-m4.o")
+    else()
+        set(FITREC_FILE "${fitrec_root}/release/fitrec-${FITREC_PROCESSOR}.o")
+    endif()
+endif()
+if(NOT EXISTS "${FITREC_FILE}")
+    set(fitrec_FOUND FALSE)
+    set(fitrec_NOT_FOUND_MESSAGE "fitrec has no file for the processor '${FITREC_PROCESSOR}': set FITREC_PROCESSOR or FITREC_FILE")
+elseif(NOT TARGET fitrec::device)
+    add_library(fitrec::device INTERFACE IMPORTED GLOBAL)
+    set_target_properties(fitrec::device PROPERTIES INTERFACE_INCLUDE_DIRECTORIES "${fitrec_root}/include" INTERFACE_LINK_LIBRARIES "${FITREC_FILE}")
+endif()

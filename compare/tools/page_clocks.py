@@ -1,0 +1,241 @@
+"""The page in a browser: rides whose clock was wrong, and the answer when they began."""
+
+import datetime
+import itertools
+import pathlib
+import re
+import zipfile
+
+from tools.checks import differs, unless
+from tools.fit_files import framed
+from tools.page_forms import MAY_LEAVE
+from tools.page_people import FAINT, FOCUSED, takes
+from tools.page_values import BEGIN, ELAPSED, ENUM, HEART, TIME, TIMER, UINT16, UINT32, message
+from tools.pages import START, both, recorded, tour
+from tools.program import bytes_of, run
+from tools.reader import EPOCH
+from tools.visits import FINE, MOSTLY, RESCUED, WIDTHS, WINDOWS
+
+DAY = 86400
+NOW = int((datetime.datetime.now(datetime.timezone.utc).replace(tzinfo=None) - EPOCH).total_seconds())
+# At ten in the morning.
+AHEAD = NOW - NOW % DAY + 45 * DAY + 10 * 3600
+# What the page asks, and why, as it describes the field and the result; the fold with the same question; what is in the field; and whether
+# there is a way back.
+ASKED = """(() => {
+  const field = document.getElementById('began'), seen = it => it && it.checkVisibility();
+  const [own, all] = [field, document.getElementById('result')].map(it => it && it.getAttribute('aria-describedby'));
+  const why = own && all.split(' ').includes(own) ? document.getElementById(own) : null;
+  return { asked: seen(field) ? field.labels[0].innerText : null, why: why && why.innerText, value: field && field.value,
+    fold: seen(document.getElementById('clock')) ? document.querySelector('#clock summary').innerText : null,
+    back: Boolean(seen(document.getElementById('keepTimes'))) };
+})()"""
+MOVE, KEEP, OPEN = {"click": "#moveTimes"}, {"click": "#keepTimes"}, {"click": "#clock summary"}
+SEEN, SAVE = {"evaluate": ASKED}, {"download": "#save"}
+QUESTION, FOLD, CORRECTED = "When did your ride begin?", "Are the times wrong?", "The times of your ride are corrected"
+# The question in each language, and what answers it.
+SPOKEN = {"de": ("Wann war der Start deiner Fahrt?", "Alle Zeiten verschieben"), "en": (QUESTION, "Move all times"),
+          "es": ("¿Cuándo fue el inicio de tu salida?", "Desplazar todas las horas"),
+          "fr": ("À quand remonte le début de votre sortie ?", "Décaler toutes les heures"),
+          "it": ("Quando è stato l’inizio della tua uscita?", "Sposta tutti gli orari")}
+# The answer in what follows.
+MORNING, SHOWN = "2026-05-01T08:00", "May 1, 2026 at 8:00 AM UTC"
+
+
+def answered(value):
+    return [{"evaluate": "document.getElementById('began').value = '%s'" % value}, MOVE]
+
+
+def moved(fitrec, file, to, *words):
+    """What the program makes of a file."""
+    to.unlink(missing_ok=True)
+    run(fitrec, "shift", *words, file, to)
+    return bytes_of(to)
+
+
+def contents(path):
+    """The files in a ZIP file; nothing of another one."""
+    if not zipfile.is_zipfile(path):
+        return None
+    with zipfile.ZipFile(path) as them:
+        return {it: them.read(it) for it in them.namelist()}
+
+
+def parts(shown, *keys):
+    return [shown[key] for key in keys]
+
+
+def without_start(numbers):
+    return {key: it for key, it in numbers.items() if key != "Start"}
+
+
+def of_clocks(fitrec, folder, browser):
+    """Where a ride began before 2000 or after today, the page asks when it began, and moves all its times as the program does."""
+    torn, own = recorded(fitrec, folder / "torn", tour(900, AHEAD)), recorded(fitrec, folder / "own", tour(900))
+    run(fitrec, "save", torn, folder / "ahead.fit")
+    run(fitrec, "save", own, folder / "ride.fit")
+
+    moved(fitrec, folder / "ride.fit", folder / "1989.fit", "--start", "1989-12-31T00:05:00Z")
+    by_answer = lambda name: moved(fitrec, folder / name, folder / "moved.fit", "--start", MORNING + ":00Z")
+
+    def judged(heading, after, value, day, before, content):
+        def judge(shown, made):
+            first, then, last = shown[1], shown[4], shown[7]
+            yield "what it asks", differs(made[1] | {"why": None}, {"asked": QUESTION, "why": None, "value": value, "fold": None, "back": False})
+            yield "why it asks", differs(made[1]["why"], "The clock of the device was wrong: at the start it showed %s." % day)
+            yield "the answer is drawn", differs((then["heading"], then["numbers"]["Start"], then["focus"]), (after, SHOWN, "result"))
+            yield "it can be given again", differs(parts(made[4], "asked", "value", "back"), [QUESTION, MORNING, True])
+            yield "it says so", unless("Every time in the file is moved" in then["reason"], then["reason"], "it says so")
+            yield "no other number changes", differs(without_start(then["numbers"]), without_start(first["numbers"]))
+            yield "no curve changes", differs(parts(then, "captions", "pictures"), parts(first, "captions", "pictures"))
+            yield "the file is what the program makes", differs(bytes_of(pathlib.Path(made[6])), content)
+            yield "its name", differs(then["download"], "2026-05-01-ride.fit")
+            yield "it warns before it is left", differs(made[5], False)
+            keys = "heading", "reason", "numbers", "captions", "laps", "download"
+            yield "the way back", differs((parts(last, *keys), made[8]), (parts(first, *keys), made[1]))
+            yield "the first file again", differs(before and bytes_of(pathlib.Path(made[9])), before)
+        return judge
+
+    ahead = (EPOCH + datetime.timedelta(seconds=AHEAD)).strftime("%Y-%m-%dT%H:%M"), \
+        (EPOCH + datetime.timedelta(seconds=AHEAD)).strftime("%B %-d, %Y at 10:00 AM UTC")
+    cases = [("1989", [folder / "1989.fit"], FINE, CORRECTED, "", "December 31, 1989 at 12:05 AM UTC", None, by_answer("1989.fit")),
+             ("45 days ahead", [folder / "ahead.fit"], FINE, CORRECTED, *ahead, None, by_answer("ahead.fit")),
+             ("a recording 45 days ahead", both(torn), RESCUED, RESCUED, *ahead, bytes_of(folder / "ahead.fit"), by_answer("ahead.fit"))]
+    for (name, files, *more), (width, window) in itertools.product(cases, WIDTHS.items()):
+        steps = [{"files": files}, SEEN, *answered(MORNING), SEEN, {"evaluate": MAY_LEAVE}, SAVE, KEEP, SEEN, *([SAVE] if more[-2] else [])]
+        browser.visit("%s, at %s" % (name, width), steps, judged(*more), **window)
+
+    # By keys: to the field, a year less, and Enter.
+    def of_keys(shown, made):
+        yield "a visible focus", differs(made[4], ["began", "solid"])
+        yield "the answer", differs(shown[6]["numbers"]["Start"], SHOWN.replace("2026", "2025"))
+
+    steps = [{"files": [folder / "1989.fit"]}, {"evaluate": "document.getElementById('began').value = '%s'" % MORNING},
+             {"evaluate": "document.getElementById('result').focus()"}, {"keys": ["Tab"]}, {"evaluate": FOCUSED},
+             {"keys": ["ArrowRight", "ArrowRight", "ArrowDown", "Enter"]}, {"click": "h1"}]
+    for width, window in WIDTHS.items():
+        browser.visit("keys at %s" % width, steps, of_keys, **window)
+    yield from browser.outcomes()
+
+
+def of_other_clocks(fitrec, folder, browser):
+    """Where the times can be right the question is in a fold; keys, languages and several rides; and what cannot be moved."""
+    own, more = recorded(fitrec, folder / "own", tour(900)), recorded(fitrec, folder / "more", [
+        *tour(400, AHEAD), *("sample %d hr=120" % (AHEAD + 9000 + at) for at in range(300))])
+    run(fitrec, "save", own, folder / "ride.fit")
+    run(fitrec, "save", more, folder / "ahead.fit")
+    at = lambda name, *words: moved(fitrec, folder / "ride.fit", folder / name, *words)
+    samples = lambda *times: b"".join(message(20, {HEART: 120} | ({} if it is None else {TIME: it})) for it in times)
+    begin = lambda kind, created: message(0, {(0, ENUM): kind, (4, UINT32): created})
+    # The clock was set after 20 seconds.
+    closing = {TIME: START + 600, BEGIN: 300, ELAPSED: 620_000, TIMER: 620_000}
+    made = {"1989.fit": at("1989.fit", "--start", "1989-12-31T00:05:00Z"),
+            "today.fit": at("today.fit", "--start", str(NOW - 3600)), "tomorrow.fit": at("tomorrow.fit", "--start", str(NOW + DAY)),
+            "2000.fit": at("2000.fit", "--start", "2000-01-01T00:00:00Z"), "1999.fit": at("1999.fit", "--start", "1999-12-31T23:00:00Z"),
+            "set.fit": framed(begin(4, 300) + samples(*range(300, 320), *range(START, START + 600)) + message(19, closing) + message(18, closing)
+                              + message(34, {TIME: START + 600, (1, UINT16): 1})),
+            "untimed.fit": framed(begin(4, START) + samples(*600 * [None])), "course.fit": framed(begin(6, 300) + samples(*range(300, 600))),
+            "early.fit": framed(begin(4, 5) + samples(*range(AHEAD, AHEAD + 600)))}
+    for name, content in made.items():
+        (folder / name).write_bytes(content)
+
+    # Whether it asks, and where.
+    def of_place(asked, fold):
+        return lambda shown, made: [("what it asks", differs((made[1]["asked"], made[1]["fold"]), (asked, fold)))]
+
+    places = {"today": (None, FOLD), "tomorrow": (QUESTION, None), "2000": (None, FOLD), "1999": (QUESTION, None), "set": (None, FOLD),
+              "untimed": (None, None), "course": (None, None), "early": ("When did your activity begin?", None)}
+    for (name, place), (width, window) in itertools.product(places.items(), WIDTHS.items()):
+        browser.visit("%s at %s" % (name, width), [{"files": [folder / (name + ".fit")]}, SEEN], of_place(*place), **window)
+
+    # In the fold, in another zone: the time of the file is there, to be changed.
+    def of_fold(shown, made):
+        yield "the question", differs(made[2], {"asked": QUESTION, "why": None, "value": "2024-11-08T03:00", "fold": FOLD, "back": False})
+        yield "the answer", differs((shown[4]["heading"], shown[4]["numbers"]["Start"]), (CORRECTED, "November 8, 2024 at 4:00 AM EST"))
+        yield "the file", differs(bytes_of(pathlib.Path(made[6])), hour_later)
+        yield "it stays open", differs(made[5], {"asked": QUESTION, "why": None, "value": "2024-11-08T04:00", "fold": FOLD, "back": True})
+        yield "the way back", differs(shown[7]["heading"], FINE)
+
+    hour_later = at("later.fit", "--by", "3600")
+    zone = {} if browser.name == "webkit" else {"zone": "America/New_York"}
+    for width, window in WIDTHS.items():
+        steps = [{"files": [folder / "ride.fit"]}, OPEN, SEEN, *answered("2024-11-08T04:00"), SEEN, SAVE, KEEP]
+        if zone:
+            browser.visit("in the fold at %s" % width, steps, of_fold, **zone, **window)
+
+    # What was cut off before it had totals gets them once its times are moved.
+    (folder / "cut.fit").write_bytes(made["1989.fit"][:-9000])
+    run(fitrec, "salvage", folder / "cut.fit", folder / "kept.fit")
+    moved(fitrec, folder / "kept.fit", folder / "moved.fit", "--start", MORNING + ":00Z")
+    run(fitrec, "salvage", "--finish", "--plain", folder / "moved.fit", folder / "whole.fit")
+    whole = bytes_of(folder / "whole.fit")
+
+    def of_cut(shown, made):
+        yield "no totals", differs("cannot be added" in shown[0]["reason"], True)
+        yield "its totals", differs((shown[2]["heading"], "have been added" in shown[2]["reason"]), (MOSTLY, True))
+        yield "the file", differs(bytes_of(pathlib.Path(made[3])), whole)
+
+    # The end that was not confirmed begins with the same times.
+    def of_end(shown, made):
+        first, end, back = shown[2], shown[3], shown[4]
+        yield "up to when", differs(re.findall(r"It goes to ([^.]*)\.", first["reason"]), ["8:20:44 AM"])
+        yield "the start", differs([it["numbers"]["Start"] for it in (first, end, back)], 3 * [SHOWN])
+        yield "the end is added", unless(end["numbers"]["Duration"] > first["numbers"]["Duration"], end["numbers"], "longer")
+        yield "the file", differs(bytes_of(pathlib.Path(made[5])), confirmed)
+
+    confirmed = moved(fitrec, folder / "ahead.fit", folder / "moved.fit", "--start", MORNING + ":00Z")
+
+    # One of its times would be below 0.
+    def of_too_far(shown, made):
+        reason, details = shown[2]["reason"], shown[2]["details"]
+        yield "it is refused", unless(reason.startswith("The times of this file cannot be moved."), reason, "a refusal")
+        yield "its place", unless("At byte 26 is a time" in details, details, "at byte 26")
+        yield "the file is as it was", differs((shown[2]["heading"], shown[2]["numbers"], made[3]["back"]),
+                                               (shown[0]["heading"], shown[0]["numbers"], False))
+
+    # A time that no ride began at is refused by the field.
+    def of_no_start(shown, made):
+        yield "it stays", differs((shown[3]["numbers"], made[3]["back"]), (shown[0]["numbers"], False))
+
+    # One of several rides.
+    def of_several(shown, made):
+        first = shown[3]["list"][0]
+        yield "its row", differs([first[1], first[4]], [SHOWN, CORRECTED])
+        yield "the ZIP file", differs(contents(made[5]), {"2026-05-01-ride.fit": by_answer, "2024-11-08-ride.fit": bytes_of(folder / "ride.fit")})
+        yield "shown again", differs((shown[4]["heading"], shown[4]["numbers"]["Start"]), (CORRECTED, SHOWN))
+
+    # The first of two that are chained; and a ride whose journal is chosen after the answer.
+    def of_file(heading, content):
+        def judge(shown, made):
+            yield "the start", differs((shown[-1]["heading"], shown[-1]["numbers"]["Start"]), (heading, SHOWN))
+            yield "the file", differs(bytes_of(pathlib.Path(made[-1])), content)
+        return judge
+
+    (folder / "chain.fit").write_bytes(bytes_of(folder / "ahead.fit") + bytes_of(folder / "ride.fit"))
+    data, journal = both(more)
+    by_answer = moved(fitrec, folder / "1989.fit", folder / "answered.fit", "--start", MORNING + ":00Z")
+    show = {"click": "#rides tbody button"}
+    for width, window in WIDTHS.items():
+        for name, steps, judge in (
+                ("cut off", [{"files": [folder / "cut.fit"]}, *answered(MORNING), SAVE], of_cut),
+                ("an end", [{"files": both(more)}, *answered(MORNING), {"click": "#offers button"}, {"click": "#offers button:last-child"}, SAVE], of_end),
+                ("too far", [{"files": [folder / "early.fit"]}, *answered(MORNING), SEEN], of_too_far),
+                ("no start", [{"files": [folder / "1989.fit"]}, *answered("1995-05-01T08:00"), SEEN], of_no_start),
+                ("chained files", [{"files": [folder / "chain.fit"]}, show, *answered(MORNING), SAVE], of_file(CORRECTED, confirmed)),
+                ("a journal later", [{"files": [data]}, *answered(MORNING), {"files": [journal]}, SAVE], of_file(RESCUED, confirmed)),
+                ("several rides", [{"files": [folder / "1989.fit", *both(own)]}, show, *answered(MORNING), show, {"download": "#saveAll"}], of_several)):
+            browser.visit("%s at %s" % (name, width), steps, judge, **window)
+
+    # In each language, with contrast.
+    def of_language(question, button):
+        return lambda shown, made: [("the question", differs([made[2]["asked"], made[3]], [question, button]))]
+
+    words = {"evaluate": "document.getElementById('moveTimes').innerText"}
+    for (language, spoken), (width, window) in itertools.product(SPOKEN.items(), WIDTHS.items()):
+        steps = [{"files": [folder / "1989.fit"]}, takes("language", language), SEEN, words, takes("language", "en")]
+        browser.visit("%s at %s" % (language, width), steps, of_language(*spoken), **window)
+    faint = {"evaluate": FAINT}
+    for name, window in WINDOWS.items():
+        browser.visit("contrast, %s" % name, [{"files": [folder / "1989.fit"]}, faint, *answered(MORNING), faint],
+                      lambda shown, made: [("contrast", differs([made[1], made[4]], [[], []]))], **window)
+    yield from browser.outcomes()

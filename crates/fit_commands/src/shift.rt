@@ -1,0 +1,126 @@
+// The subcommand `shift`: a file with the same messages, and every time in them moved.
+
+ghost use Rattle.std.specs.Prelude.{◌≡◌, IfOk, IfErr, OnOk};
+ghost use Rattle.fit_commands.specs.Reported.{PrintsNothing};
+ghost use Rattle.fit_commands.specs.Shifted.{fault_of_shift, IsNotShifted, IsShiftReported, IsShiftedFile, ShiftsFile};
+
+use crate::beside::write_whole;
+use crate::fault::Fault;
+use crate::input::{fault_of_report, read_file};
+use fit_files::{count_messages, print_messages};
+use fit_grammar::File;
+use fit_shifting::{Shift, ShiftBy, ShiftFault, shift_bytes};
+use fit_words::ShiftForm;
+use jiff::Timestamp;
+use std::io::Write;
+use std::rt::Files;
+
+// From 1970-01-01T00:00:00Z to 1989-12-31T00:00:00Z, in seconds.
+const FIT_EPOCH: i64 = 631_065_600;
+
+/// The word that does not say how times are moved.
+#[derive(Clone, Copy)]
+pub enum NotShift<'a> {
+    /// It is no number of seconds.
+    By(&'a str),
+    /// It is no time.
+    Start(&'a str),
+}
+
+/// How the words say that times are moved.
+pub fn shift_by<'a>(form: &ShiftForm<'a>) -> Result<ShiftBy, NotShift<'a>> {
+    match form.start {
+        Some(word) => match time_in(word) {
+            Some(time) => Ok(ShiftBy::Start(time)),
+            None => Err(NotShift::Start(word)),
+        },
+        None => {
+            let word = form.by.unwrap_or("");
+            match shift_in(word) {
+                Some(shift) => Ok(ShiftBy::Seconds(shift)),
+                None => Err(NotShift::By(word)),
+            }
+        }
+    }
+}
+
+// The shift by the seconds of this word, which may have a sign.
+fn shift_in(word: &str) -> Option<Shift> {
+    let seconds = word.parse::<i64>().ok()?;
+    let count = valid(i64::try_from(seconds.unsigned_abs()).ok()?)?;
+    if seconds < 0 {
+        Some(Shift::Earlier(count))
+    } else {
+        Some(Shift::Later(count))
+    }
+}
+
+// The time of this word: seconds since 1989-12-31T00:00:00Z, or a date and time of whole seconds with its zone.
+fn time_in(word: &str) -> Option<u32> {
+    if let Ok(seconds) = word.parse::<u32>() {
+        return valid(i64::from(seconds));
+    }
+    let time = word.parse::<Timestamp>().ok()?;
+    if time.subsec_nanosecond() != 0 {
+        return None;
+    }
+    valid(time.as_second().checked_sub(FIT_EPOCH)?)
+}
+
+// The number of seconds, unless it is below 0, or 4,294,967,295 or more.
+fn valid(seconds: i64) -> Option<u32> {
+    match u32::try_from(seconds) {
+        Ok(0xFFFF_FFFF) | Err(_) => None,
+        Ok(seconds) => Some(seconds),
+    }
+}
+
+/// Writes the file `name`, with every time in it moved and written out, to the file `to`, which may exist, and prints the number of its
+/// messages. Both may be one file.
+pub fn make_shifted<'a, O: Write>(
+    rt: &HostRuntime,
+    name: &'a str,
+    to: &'a str,
+    by: ShiftBy,
+    out: &mut O,
+) -> Result<(), Fault<'a>>
+    ensures reported { IfErr result (IsShiftReported name.entry to.entry by) }
+    ensures made { OnOk result (ShiftsFile by (O.contents out.old) (O.contents out.new)) }
+    ensures quiet { IfErr result (PrintsNothing (O.contents out.old) (O.contents out.new)) }
+{
+    let shifted = shifted_of(rt, name, by)?;
+    write_whole(rt, to, &shifted)?;
+    match print_messages(count_messages(&shifted), out) {
+        Ok(()) => Ok(()),
+        Err(fault) => Err(fault_of_report(name, fault)),
+    }
+}
+
+// The file of this name with its times moved.
+fn shifted_of<'a, R: Files + AllocGlobal>(
+    rt: &R,
+    name: &'a str,
+    by: ShiftBy,
+) -> Result<File, Fault<'a>>
+    ensures shifted { IfOk result (IsShiftedFile by) }
+    ensures reported { IfErr result (IsNotShifted name.entry by) }
+{
+    let bytes = read_file(rt, name)?;
+    match shift_bytes(rt.alloc(), by, bytes.as_slice()) {
+        Ok(shifted) => Ok(shifted),
+        Err(fault) => Err(fault_of(fault)),
+    }
+}
+
+// The program's fault for a file whose times are not moved.
+fn fault_of<'a>(fault: ShiftFault) -> Fault<'a>
+    ensures { result ≡ fault_of_shift fault }
+{
+    match fault {
+        ShiftFault::File(fault) => Fault::File(fault),
+        ShiftFault::NoTime => Fault::NoTime,
+        ShiftFault::Time(place) => Fault::TimeTooFar(place),
+        ShiftFault::Plain(fault) => Fault::Plain(fault),
+        ShiftFault::Memory => Fault::NoMemory,
+    }
+}

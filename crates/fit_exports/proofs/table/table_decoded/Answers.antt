@@ -1,4 +1,0 @@
-use Rattle.fit_exports.proofs.table.table_decoded.Goals as goal
-
-pub returns-clause-text : goal.returns-clause-text
-returns-clause-text g c = rw (← c.lend.ensures) (c.flush_written.ensures.text _ _ c.write_chosen-written.ensures)

@@ -1,0 +1,3 @@
+-- Tables, and the fields that messages have.
+pub mod Fields
+pub mod Tabled

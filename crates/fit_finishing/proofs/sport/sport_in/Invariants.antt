@@ -1,6 +1,0 @@
-use Rattle.std.proofs.Common.{◌≡◌}
-use Rattle.fit_finishing.specs.Heard.{first_sport}
-use Rattle.fit_finishing.proofs.sport.sport_in.Given as goal
-
-abbrev pub invariant-loop-message : goal.invariant-loop-message
-invariant-loop-message l = first_sport l.initial.message-iterator ≡ first_sport l.message-iterator

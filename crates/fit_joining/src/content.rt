@@ -1,0 +1,119 @@
+// The content of a message, its fields changed.
+
+ghost use Rattle.std.specs.Prelude.{◌≡◌, ◌≤◌, ◌++◌, length, sum_by, OnOk};
+ghost use Rattle.fit_grammar.specs.Format.Item.{fields_size};
+ghost use Rattle.fit_grammar.specs.Format.Encoding.{two_bytes};
+ghost use Rattle.fit_grammar.specs.Calls.PlainForm.{time_bytes};
+ghost use Rattle.fit_joining.specs.Part.{is_distance, is_lap_number};
+ghost use Rattle.fit_joining.specs.Private.Content.{field_changed, content_changed, distance_changed, lap_changed};
+
+use crate::tally::Tally;
+use fit_base::{Arch, number_of};
+use fit_grammar::{DefinitionMessage, FieldDefinition};
+use std::alloc::AllocError;
+
+// Adds the content of a message under its definition: a distance goes on, and a lap has its number in turn.
+pub(crate) fn put_content(
+    tally: Tally,
+    definition: &DefinitionMessage<'_>,
+    content: &[u8],
+    out: &mut Vec<u8>,
+) -> Result<(), AllocError>
+    requires { fields_size definition.now ≤ length content.now }
+    ensures { OnOk result (out.new.items ≡ out.old.items ++ content_changed tally definition.now.global
+        definition.now.arch definition.now.fields.items content.now) }
+{
+    let definition = definition.read();
+    let mut fields: &[FieldDefinition] = &definition.fields;
+    let mut rest = content;
+    while let [field, others @ ..] = fields {
+        let (bytes, after) = rest.split_at(field.size as usize);
+        put_field(tally, definition.global, definition.arch, field, bytes, out)?;
+        fields = others;
+        rest = after;
+    }
+    out.extend_from_slice(rest)
+}
+
+// Adds the bytes of a field.
+fn put_field(
+    tally: Tally,
+    message: u16,
+    arch: Arch,
+    field: &FieldDefinition,
+    bytes: &[u8],
+    out: &mut Vec<u8>,
+) -> Result<(), AllocError>
+    ensures { OnOk result (out.new.items
+        ≡ out.old.items ++ field_changed tally message arch field.now bytes.now) }
+{
+    if is_distance(message, field.number, field.base) {
+        return put_distance(tally, arch, bytes, out);
+    }
+    if is_lap_number(message, field.number, field.base) {
+        return put_lap_number(tally, arch, bytes, out);
+    }
+    out.extend_from_slice(bytes)
+}
+
+// Adds a distance of four bytes, so much further.
+fn put_distance(tally: Tally, arch: Arch, bytes: &[u8], out: &mut Vec<u8>) -> Result<(), AllocError>
+    ensures { OnOk result (out.new.items ≡ out.old.items ++ distance_changed tally arch bytes.now) }
+{
+    match bytes {
+        [a, b, c, d] => {
+            let distance = number_of(arch, &[*a, *b, *c, *d]) as u32;
+            out.extend_from_slice(&bytes_of(arch, tally.further(distance)))
+        }
+        _ => out.extend_from_slice(bytes),
+    }
+}
+
+// Adds the number of a lap in two bytes.
+fn put_lap_number(
+    tally: Tally,
+    arch: Arch,
+    bytes: &[u8],
+    out: &mut Vec<u8>,
+) -> Result<(), AllocError>
+    ensures { OnOk result (out.new.items ≡ out.old.items ++ lap_changed tally arch bytes.now) }
+{
+    match bytes {
+        [_, _] => out.extend_from_slice(&two_bytes_of(arch, tally.laps)),
+        _ => out.extend_from_slice(bytes),
+    }
+}
+
+// Whether a field is the distance of a record.
+fn is_distance(message: u16, number: u8, base: u8) -> bool
+    ensures { result ≡ is_distance message number base }
+{
+    base == 0x86 && message == 20 && number == 5
+}
+
+// Whether a field is the number of a lap.
+fn is_lap_number(message: u16, number: u8, base: u8) -> bool
+    ensures { result ≡ is_lap_number message number base }
+{
+    base == 0x84 && message == 19 && number == 254
+}
+
+// The four bytes of a number.
+fn bytes_of(arch: Arch, number: u32) -> [u8; 4]
+    ensures { result ≡ time_bytes arch number }
+{
+    match arch {
+        Arch::Little => number.to_le_bytes(),
+        Arch::Big => number.to_be_bytes(),
+    }
+}
+
+// The two bytes of a number.
+fn two_bytes_of(arch: Arch, number: u16) -> [u8; 2]
+    ensures { result ≡ two_bytes arch number }
+{
+    match arch {
+        Arch::Little => number.to_le_bytes(),
+        Arch::Big => number.to_be_bytes(),
+    }
+}

@@ -1,0 +1,4 @@
+mod Moments
+mod Folders
+mod Runs
+mod MemoryFolders

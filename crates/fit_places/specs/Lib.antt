@@ -1,0 +1,13 @@
+pub mod Folder
+pub mod FolderStory
+pub mod Changes
+pub mod Calls
+pub mod Replaced
+pub mod Private
+pub mod Real
+pub mod Noted
+pub mod StoredThing
+pub mod NameChanges
+pub mod MemoryFolder
+pub mod CallPlan
+pub mod Memory

@@ -1,0 +1,2 @@
+-- For crates above.
+pub mod Saved

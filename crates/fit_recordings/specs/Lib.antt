@@ -1,0 +1,4 @@
+pub mod Saved
+pub mod Lacking
+pub mod Repaired
+pub mod Rereading

@@ -1,0 +1,9 @@
+use Rattle.std.proofs.Common.{◌≡◌}
+use Rattle.fit_shifting.specs.Start.{first_time}
+use Rattle.fit_shifting.proofs.start.first_time.Given as goal
+
+abbrev pub invariant-loop-message : goal.invariant-loop-message
+invariant-loop-message l =
+    (goal.iterator-loop-message).can_next l.message-iterator ×
+    (goal.iterator-loop-message).is_finite l.message-iterator ×
+    (first_time l.message-iterator ≡ first_time l.initial.message-iterator)

@@ -1,0 +1,4 @@
+pub mod Content
+pub mod Row
+pub mod Plain
+pub mod Read

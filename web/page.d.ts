@@ -1,0 +1,66 @@
+// What the modules of the page give each other. Times are seconds since 1989-12-31 00:00 UTC, lengths of time milliseconds, distances
+// centimetres.
+
+// What start.js gives the page: the source of its workers, the module of the library, packed, and whether the page is served.
+interface Window { fitrec: { worker: string, module: string, isServed: boolean } }
+
+interface Float64Array { findLastIndex(holds: (n: number) => boolean): number }
+
+declare class DecompressionStream { constructor(format: string); readable: ReadableStream<Uint8Array>; writable: WritableStream<any> }
+
+// A file that was chosen, or came out of an archive.
+interface Chosen { file: File, folder: string, isArchive?: boolean }
+
+// The files of a ride; and what was made of it last, by which offers, and by how many seconds its times are moved.
+interface Files { data?: Blob, journal?: File, name: string, folder: string, isArchive?: boolean, isPart?: boolean,
+  how?: string[], seconds?: number, heading?: string, file?: Blob, saved?: string, words?: string, facts?: Facts, isTaken?: boolean,
+  isDownloaded?: boolean }
+
+// What a worker is given of them.
+interface Given { data?: Uint8Array, journal?: Uint8Array, name?: string, journalName?: string, isPart?: boolean, unread?: number, seconds?: number }
+
+// A text by its key, and what is filled in.
+type Said = [key: string, values?: Record<string, any>];
+
+interface Summary { records: number | null, laps: number | null, sessions: number | null, start: number | null, elapsed: number | null,
+  timer: number | null, distance: number | null }
+
+// A file whose times are moved by so many seconds, if they are, and what is said of that.
+interface Moved { file: Uint8Array, seconds?: number, reasons: any[], details: any[] }
+
+// A place in a new file where something of the old one is left out: how many samples stand before it, if they were counted.
+interface Gap { at: number, size: number, isLast: boolean, before?: number }
+
+// What is said of a ride, its new file or the file that is shown, by how many seconds its times are moved, or the files that are chained in
+// it.
+interface Answer { heading?: string, reasons?: Said[], details?: Said[], next?: Said[], offers?: string[], file?: any, shown?: any,
+  seconds?: number, parts?: Uint8Array[], summary?: Summary, gaps?: Gap[], isWhole?: boolean, isSaved?: boolean, isOurs?: boolean,
+  name?: string, ride?: Drawn }
+
+// Samples that count as one: the first of them, their least and greatest value, and the sum of values by their seconds.
+interface Part { first?: number, low: number, high: number, sum: number, seconds: number }
+
+interface Curve { line: string, bars: string, low: number, high: number, lines: number[] }
+
+interface Series { name: string, values: Float64Array, low: number, average: number, high: number, from: number, to: number, least: number,
+  faults: number, inMotion: number | null, mean: number | null, parts?: Part[], breaks?: number[], curve?: Curve | null }
+
+interface Laps { count: number, isOpen: boolean, start?: Float64Array, timer?: Float64Array, distance?: Float64Array,
+  heartAverage?: Float64Array, heartGreatest?: Float64Array, powerAverage?: Float64Array }
+
+// A picture of a track, and what leads from degrees to a place in it.
+interface Frame { width: number, height: number, scale: number, narrow: number, middleX: number, middleY: number }
+interface Track extends Frame { count: number, first: number, finish: number, metres: number, startAt?: number[], finishAt?: number[],
+  paths: { name: string, from?: number, to?: number, paths: string[] }[] }
+
+// What the page shows of a ride.
+interface Drawn { time: Float64Array, lat: Float64Array, long: Float64Array, distance: Float64Array, series: Series[], laps: Laps,
+  track?: Track | null, sport?: number, isUntimed: boolean, missing: (Missing | null)[], added: Partial<Summary>, ascent: number | null,
+  sums: Partial<Summary> & { ascent?: number }, pauses: number[][], breaks?: number[] }
+
+interface Missing { from: number | null, to: number | null, ms: number | null, cm: number | null }
+
+// What a ride adds up to, by its samples and by its sessions.
+interface Facts { of: any, added: Partial<Summary>, sums: Partial<Summary> & { ascent?: number }, ascent?: number | null, laps: number }
+
+interface Shown { shown: string, other: string }

@@ -1,0 +1,90 @@
+// What ZIP and GZ files have in them takes their place, such as the exports of websites. The browser inflates.
+
+// So many bytes come out of all that is chosen at once, at most, and archives lie in one another so deep.
+const MOST_UNPACKED = 2 ** 29, DEEPEST = 3;
+
+// Files with their folders, without archives that have a FIT file or a journal in them. One that has none stays, and is refused by its
+// name.
+/** @param {Chosen[]} files @returns {Promise<Chosen[]>} */
+export async function unpacked(files) {
+  const left = { room: MOST_UNPACKED }, found = [];
+  for (const it of files) found.push(...await contentOf(it, left, DEEPEST));
+  return found;
+}
+
+async function contentOf({ file, folder }, left, depth) {
+  const [first, second] = new Uint8Array(await file.slice(0, 2).arrayBuffer().catch(() => new ArrayBuffer(0)));
+  const isZip = first === 0x50 && second === 0x4B, isGzip = first === 0x1F && second === 0x8B;
+  if (!depth || !(isZip || isGzip)) return [{ file, folder }];
+  const found = [], whole = async () => ({ name: file.name.replace(/\.gz$/i, ''), parts: await inflatedFrom(file, 'gzip', left) });
+  for (const { name, parts } of isZip ? await entriesOf(file, left) : [await whole()]) {
+    const own = name.split('/').pop(), path = isZip ? `${file.name}/${name.slice(0, name.length - own.length)}` : '';
+    found.push(...await contentOf({ file: new File(parts, own), folder: folder + path }, left, depth - 1));
+  }
+  return found.length ? found : [{ file, folder, isArchive: true }];
+}
+
+// What inflates of a file, up to the first fault in it.
+async function inflatedFrom(blob, format, left) {
+  const reader = blob.stream().pipeThrough(new DecompressionStream(format)).getReader(), parts = [];
+  for (;;) {
+    const { done, value } = await reader.read().catch(() => ({ done: true }));
+    if (done) return parts;
+    left.room -= value.length;
+    if (left.room < 0) {
+      reader.cancel().catch(() => {});
+      throw new RangeError('too much');
+    }
+    parts.push(value);
+  }
+}
+
+// The directory of a ZIP file ends with so many bytes at most.
+const DIRECTORY_END = 65557;
+
+// What stands before an entry, what may stand after it, an entry of the directory, and its end.
+const ENTRY = 0x04034B50, AFTER = 0x08074B50, LISTED = 0x02014B50, END = 0x06054B50;
+
+// The entries of a ZIP file whose names are those of rides or archives.
+async function entriesOf(file, left) {
+  const viewOf = async (from, size) => new DataView(await file.slice(from, from + size).arrayBuffer()), found = [];
+  for (const { start, size } of await listedIn(file, viewOf) || entriesIn(await viewOf(0, file.size))) {
+    const entry = await viewOf(start, 30);
+    if (entry.byteLength < 30) continue;
+    const nameEnd = start + 30 + entry.getUint16(26, true), content = nameEnd + entry.getUint16(28, true);
+    const name = new TextDecoder().decode(await file.slice(start + 30, nameEnd).arrayBuffer()), packed = file.slice(content, content + size);
+    if (!/\.(fit|frj|gz|zip)$/i.test(name)) continue;
+    found.push({ name, parts: entry.getUint16(8, true) ? await inflatedFrom(packed, 'deflate-raw', left) : [packed] });
+  }
+  return found;
+}
+
+// Where the entries of a ZIP file begin, and their sizes, by the directory at its end; null if that is lost.
+async function listedIn(file, viewOf) {
+  const tail = await viewOf(Math.max(0, file.size - DIRECTORY_END), DIRECTORY_END), found = [];
+  let end = tail.byteLength - 22;
+  while (end >= 0 && tail.getUint32(end, true) !== END) end--;
+  if (end < 0) return null;
+  const view = await viewOf(tail.getUint32(end + 16, true), tail.getUint32(end + 12, true));
+  for (let i = 0; i + 46 <= view.byteLength && view.getUint32(i, true) === LISTED;) {
+    found.push({ start: view.getUint32(i + 42, true), size: view.getUint32(i + 20, true) });
+    i += 46 + [28, 30, 32].reduce((sum, k) => sum + view.getUint16(i + k, true), 0);
+  }
+  return found;
+}
+
+// The same by what stands before each, and after those whose sizes do not stand before them.
+function entriesIn(view) {
+  const found = [];
+  for (let i = 0; i + 30 <= view.byteLength; i++) {
+    if (view.getUint16(i, true) !== (ENTRY & 0xFFFF)) continue;
+    const sign = view.getUint32(i, true), last = found[found.length - 1];
+    if (last && !last.size && [ENTRY, AFTER, LISTED].includes(sign)) last.size = i - last.content;
+    if (sign !== ENTRY) continue;
+    const content = i + 30 + view.getUint16(i + 26, true) + view.getUint16(i + 28, true);
+    found.push({ start: i, content, size: view.getUint32(i + 18, true) });
+  }
+  const last = found[found.length - 1];
+  if (last && !last.size) last.size = Math.max(0, view.byteLength - last.content);
+  return found;
+}
