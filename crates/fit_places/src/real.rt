@@ -16,8 +16,15 @@ pub struct RealPlace<'a> {
     path: &'a str,
     name: &'a str,
     locked: Option<File>,
-    created: Option<File>,
+    created: Option<Created>,
     folder: Option<File>,
+}
+
+// A file that was created, and its path. The path is kept: once memory is refused, the file can still be moved and removed.
+#[derive(Drop)]
+struct Created {
+    path: PathBuf,
+    file: File,
 }
 
 impl<'a> RealPlace<'a> {
@@ -47,6 +54,25 @@ impl<'a> RealPlace<'a> {
         Ok(Path::new(self.path).with_file_name(self.rt.alloc(), name)?)
     }
 
+    // The path of the file, or of the one that was created, by its name. It takes no memory.
+    fn kept_path(&self, name: &str) -> Result<&str, PlaceFault> {
+        if name == self.name {
+            return Ok(self.path);
+        }
+        match &self.created {
+            Some(created) if created.path.file_name() == Some(name) => Ok(created.path.as_str()),
+            _ => Err(PlaceFault::Failed),
+        }
+    }
+
+    // The file that was created.
+    fn created_file(&self) -> Result<&File, PlaceFault> {
+        match &self.created {
+            Some(created) => Ok(&created.file),
+            None => Err(PlaceFault::Failed),
+        }
+    }
+
     // What a name stands for.
     fn kind_of(&self, name: &str) -> io::Result<Option<Kind>> {
         match fs::symlink_metadata(self.rt, self.path_of(name)?.as_str()) {
@@ -58,14 +84,15 @@ impl<'a> RealPlace<'a> {
     }
 
     // Creates a file, or returns `None` if its name is taken.
-    fn new_file(&self, name: &str, mode: u32) -> io::Result<Option<File>> {
+    fn new_file(&self, name: &str, mode: u32) -> io::Result<Option<Created>> {
+        let path = self.path_of(name)?;
         let made = OpenOptions::new()
             .write(true)
             .create_new(true)
             .mode(mode)
-            .open(self.rt, self.path_of(name)?.as_str());
+            .open(self.rt, path.as_str());
         match made {
-            Ok(file) => Ok(Some(file)),
+            Ok(file) => Ok(Some(Created { path, file })),
             Err(error) if error.kind() == ErrorKind::AlreadyExists => Ok(None),
             Err(error) => Err(error),
         }
@@ -103,25 +130,24 @@ impl Place for RealPlace<'_> {
 
     fn copy_mode(&mut self, _name: &str) -> Result<(), PlaceFault> {
         let mode = open_one(&self.locked)?.metadata()?.permissions();
-        open_one(&self.created)?.set_permissions(mode)?;
+        self.created_file()?.set_permissions(mode)?;
         Ok(())
     }
 
     fn write<C: Content>(&mut self, content: &C) -> Result<(), PlaceFault> {
         match &mut self.created {
-            Some(file) => content.write_to(file),
+            Some(created) => content.write_to(&mut created.file),
             None => Err(PlaceFault::Failed),
         }
     }
 
     fn sync_file(&mut self) -> Result<(), PlaceFault> {
-        open_one(&self.created)?.sync_all()?;
+        self.created_file()?.sync_all()?;
         Ok(())
     }
 
     fn move_to(&mut self, from: &str, to: &str) -> Result<(), PlaceFault> {
-        let from = self.path_of(from)?;
-        fs::rename(self.rt, from.as_str(), self.path_of(to)?.as_str())?;
+        fs::rename(self.rt, self.kept_path(from)?, self.kept_path(to)?)?;
         Ok(())
     }
 
@@ -131,7 +157,7 @@ impl Place for RealPlace<'_> {
     }
 
     fn remove(&mut self, name: &str) -> Result<(), PlaceFault> {
-        fs::remove_file(self.rt, self.path_of(name)?.as_str())?;
+        fs::remove_file(self.rt, self.kept_path(name)?)?;
         Ok(())
     }
 }
