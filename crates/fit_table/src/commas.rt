@@ -14,6 +14,10 @@ pub fn put_commas<W: Write>(pen: &mut Pen<'_, W>, count: usize) -> Result<(), Wr
     requires { count ≤ 256 }
     ensures { Puts pen.old pen.new result (commas count) }
 {
+    // Most cells have a value, so most commas stand alone.
+    if count == 1 {
+        return pen.put(b",");
+    }
     // As many as are put at once. The program has them; an array would be made anew in each call.
     let all: &'static [u8] = b",,,,,,,,,,,,,,,,,,,,,,,,,,,,,,,,,,,,,,,,,,,,,,,,,,,,,,,,,,,,,,,,\
         ,,,,,,,,,,,,,,,,,,,,,,,,,,,,,,,,,,,,,,,,,,,,,,,,,,,,,,,,,,,,,,,,\
