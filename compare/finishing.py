@@ -7,7 +7,7 @@ import random
 import re
 
 from tools.checks import Skipped, differs, unless
-from tools.finished import finished
+from tools.finished import effort, finished, text
 from tools.fit_files import damaged, framed
 from tools.other_makers import rides
 from tools.program import bytes_of, room, run
@@ -34,7 +34,7 @@ class Maker:
     """Makes activities as another maker's device may: in either byte order, with fields in any order and others beside them."""
 
     def __init__(self, pick):
-        self.pick, self.bytes, self.time, self.distance = pick, b"", START, 0
+        self.pick, self.bytes, self.time, self.distance, self.altitude = pick, b"", START, 0, 2600
         self.layouts = {}
 
     def define(self, message, fields):
@@ -65,10 +65,12 @@ class Maker:
 
     def record(self, kinds):
         self.distance += self.pick.choice([300, 500, 0, -20 if self.pick.random() < 0.02 else 700])
+        self.altitude = max(self.altitude + self.pick.choice([0, 1, 3, 9, 10, 11, -1, -2, -9, -10, -40, 60000 if self.pick.random() < 0.01 else 5]), 0)
+        cadence, altitude = self.pick.choice([0, 0, 1, 60, 90, 254]), self.altitude
         value = {(3, 2): self.pick.randrange(90, 190), (5, 0x86): max(self.distance, 0), (7, 0x84): self.pick.randrange(600),
-                 (73, 0x86): self.pick.choice([3000, 8000, 70000]), (6, 0x84): self.pick.randrange(65535), (4, 2): 90,
-                 (0, 0x85): self.pick.randrange(-2**30, 2**30), (1, 0x85): self.pick.randrange(-2**30, 2**30), (78, 0x86): 2600,
-                 (13, 1): self.pick.randrange(-9, 30), (39, 0x84): 77, (3, 0x84): 100, (2, 0x84): 2600}
+                 (73, 0x86): self.pick.choice([3000, 8000, 70000]), (6, 0x84): self.pick.randrange(65535), (4, 2): cadence,
+                 (0, 0x85): self.pick.randrange(-2**30, 2**30), (1, 0x85): self.pick.randrange(-2**30, 2**30), (78, 0x86): altitude,
+                 (13, 1): self.pick.randrange(-9, 30), (39, 0x84): 77, (3, 0x84): 100, (2, 0x84): altitude % 65535}
         values = {row: None if self.pick.random() < 0.03 else value[row] for row in kinds}
         self.message(20, {(253, 0x86): self.move()} | values)
 
@@ -132,6 +134,7 @@ def of_other_makers(given):
 
 def ride(pick):
     """The lines of a ride of our own."""
+    altitude = 2600
     lines, time, distance, running = ["start %d 7 %s" % (START, pick.choice(["running", "cycling", "generic"]))], START, 0, True
     for _ in range(pick.randrange(1, 120)):
         time += pick.choice([0, 1, 1, 1, 1, 7, 46])
@@ -144,9 +147,25 @@ def ride(pick):
         elif running:
             distance += pick.randrange(900)
             values = ["dist=%d" % distance, "hr=%d" % pick.randrange(90, 190), "power=%d" % pick.randrange(500)]
-            values.append("espeed=%d" % pick.randrange(20000))
-            lines.append(" ".join(["sample %d" % time, *pick.sample(values, pick.randrange(5))]))
+            altitude = max(altitude + pick.choice([0, 1, 4, 9, 10, 11, -1, -4, -9, -10, -30]), 0)
+            values += ["espeed=%d" % pick.randrange(20000), "cad=%d" % pick.choice([0, 0, 75, 90]), "alt=%d" % altitude, "ealt=%d" % (altitude + pick.choice([0, 7]))]
+            lines.append(" ".join(["sample %d" % time, *pick.sample(values, pick.randrange(7))]))
     return lines
+
+
+# The fields of a script that an added session is about.
+KEYS = {"cad": "cadence", "alt": "altitude", "ealt": "enhanced_altitude"}
+
+
+def with_effort(session, lines):
+    """The session of a repair of a ride of these lines, with what an added one has after it."""
+    samples = []
+    for line in lines:
+        kind, *words = line.split(" ")
+        if kind == "sample":
+            its = dict(word.split("=") for word in words[1:])
+            samples.append({name: int(its[key]) if key in its else None for key, name in KEYS.items()})
+    return text(session, effort(samples))
 
 
 def summaries(file):
@@ -170,7 +189,7 @@ def repaired(fitrec, script, new, lines):
 
 
 def judge_ride(fitrec, number, lines, cut):
-    """A ride that is cut off has the totals that a repair of what is left gives."""
+    """A ride that is cut off has the totals that a repair of what is left gives, and in its session cadence and ascent too."""
     with room() as (script, new):
         body = (recorded(fitrec, script, new, lines) / "activity.fit").read_bytes()
         place = pathlib.Path(new())
@@ -184,6 +203,7 @@ def judge_ride(fitrec, number, lines, cut):
         if kept[-1].startswith("lap"):
             # A recorder adds a lap after the last one. The ride ends with the entry before it.
             wanted = wanted[:-3] + repaired(fitrec, script, new, kept[:-1])[-2:]
+        wanted[-2] = with_effort(wanted[-2], kept)
         return "as repaired", differs((said[0], said[2], summaries((place / "out").read_bytes())), (0, "", wanted), lines)
 
 

@@ -150,15 +150,18 @@ def places_of_making(traced, records, room_for):
     item that needs it: a file of the items up to that one makes it, and a file of the items before it does not. A file whose checksum is
     wrong is read and not made plain."""
     source = pathlib.Path(room_for()) / "source"
+    # A file that is replaced takes more requests than one that is made.
+    made = source.parent / "out"
+    made.write_bytes(b"old")
 
     def count(size, is_right):
         data = framed(records[:size])
         source.write_bytes(data if is_right else data[:-1] + bytes([data[-1] ^ 1]))
-        return len(requests(traced, "plain", source, source.parent / "out"))
+        return len(requests(traced, "plain", source, made))
 
     ends = [(at, end - 14) for at, end in items_of(framed(records))]
-    made = [count(size, True) - count(size, False) for size in [0, *(size for _, size in ends)]]
-    places = [at for (at, _), before, after in zip(ends, made, made[1:]) for _ in range(after - before)]
+    counts = [count(size, True) - count(size, False) for size in [0, *(size for _, size in ends)]]
+    places = [at for (at, _), before, after in zip(ends, counts, counts[1:]) for _ in range(after - before)]
     return count(len(records), False), places
 
 

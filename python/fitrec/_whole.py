@@ -17,7 +17,7 @@ from ._sources import Bytes, Source, bytes_of, content_of
 _ABSENT = 2**32 - 1
 _EPOCH = datetime.datetime(1989, 12, 31, tzinfo=datetime.timezone.utc)
 _FIRST_DATE = 0x10000000
-_FRAME_ROOM, _FINISH_ROOM = 16, 287
+_FRAME_ROOM, _FINISH_ROOM = 16, 300
 _NO_ROOM, _MORE_PIECES, _TOO_FAR = 20, 25, 28
 
 # The numbers of a summary, in the order of the library, and their units.

@@ -11,14 +11,13 @@ use Rattle.fit_grammar.specs.Format.Records.{data_size}
 use Rattle.fit_grammar.proofs.Decoding.Reached.{records_size}
 use Rattle.fit_grammar.proofs.Encoder.Encoded.{encoded_items-length, encoded_is_header}
 use Rattle.fit_finishing.specs.declared.finishing.Finishing.{Finishing}
-use Rattle.fit_finishing.specs.Lacking.{added_items}
-use Rattle.fit_finishing.specs.Finished.{IsFinishing, finished_by, most_closing, most_opening}
+use Rattle.fit_finishing.specs.Finished.{IsFinishing, added_by, finished_by, most_closing, most_opening}
 
 -- its records fit
 pub few_bytes : (v : FileValue) (f : Finishing) → IsFinishing v f → length (encoded_items (finished_by v f).items) < 2 ^ 32
 few_bytes v f is =
-    let first = added_items f.lacks f.opening in
-    let last = added_items f.lacks f.closing in
+    let first = added_by f f.opening in
+    let last = added_by f f.closing in
     omega (
       arith,
       encoded_items-length (finished_by v f).items,
@@ -34,8 +33,8 @@ pub finished_length : (bytes : List ℕ) (v : FileValue) (f : Finishing) → Fil
     → length (encoded (finished_by v f)) ≤ length bytes + most_opening + most_closing
 finished_length bytes v f file is =
     let new = finished_by v f in
-    let first = added_items f.lacks f.opening in
-    let last = added_items f.lacks f.closing in
+    let first = added_by f f.opening in
+    let last = added_by f f.closing in
     let whole : length bytes ≡ length ((file.header ++ file.records) ++ file.closing) = ap length file.joined in
     let header = encoded_header v.frame (data_size new.items) in
     let records = encoded_items new.items in

@@ -32,7 +32,7 @@ pub struct FinishCounts {
 /// them: the closing ones, and a file_id if its first message is none. Returns 0, and the length of the file in `out_len`; 1 to 9 if the
 /// bytes are no FIT file (the code of the `FaultKind`), with the place of the fault in `fault_place`; 12 if its first message is a file_id
 /// of no activity (10 more than the code of the `ActivityFault`); 20 if the new file does not fit into `out`, with its length in
-/// `out_len`; 21 if its records could exceed 4294967295 bytes; 26 if no sample was taken. An `out` that is 287 bytes longer than `bytes`
+/// `out_len`; 21 if its records could exceed 4294967295 bytes; 26 if no sample was taken. An `out` that is 300 bytes longer than `bytes`
 /// is always large enough.
 #[unsafe(no_mangle)]
 pub extern "C" fn fitrec_finish(

@@ -1,5 +1,5 @@
 -- The parts of an activity as they are put: for `joined_of`.
-use Rattle.std.proofs.Common.{◌≡◌, ℕ, ◌-◌, ◌<◌, ◌≤◌, Bool, true, false, List, [], ◌∷◌, length, get_or, take, drop, map, refl, sym, ap, subst, arith}
+use Rattle.std.proofs.Common.{◌≡◌, ℕ, ◌-◌, ◌<◌, ◌≤◌, Bool, true, false, List, [], ◌∷◌, length, get_or, take, drop, map, refl, sym, ap, subst, ◌∙◌, arith}
 use Rattle.std.specs.Borrow.{Bor}
 use Rattle.std.specs.List.{AllByRecursion}
 use Rattle.std.proofs.lemmas.List.{take_all}
@@ -8,13 +8,28 @@ use Rattle.std.proofs.lemmas.List.Sorted.{All-permutation, length_permutation}
 use Rattle.fit_grammar.specs.Calls.PlainForm.{IsPlain}
 use Rattle.fit_joining.specs.declared.part.Part.{Part}
 use Rattle.fit_commands.specs.Reported.{IsFormOfFile}
-use Rattle.fit_commands.specs.JoinedFile.{ArePartsOf, ArePut}
+use Rattle.fit_commands.specs.JoinedFile.{AreFilesOf, ArePartsOf, ArePut, part_lent}
+use Rattle.fit_commands.specs.declared.join.NamedFile.{NamedFile}
 
 abbrev pub IsForm : Part → Type 0
 IsForm part = IsFormOfFile part.file
 
 abbrev pub IsPlainPart : Part → Type 0
 IsPlainPart part = AllByRecursion IsPlain part.file.items
+
+-- files are parts where they are lent
+names_lent : (files : List NamedFile) → map (λ part. part.name) (map part_lent files) ≡ map (λ named. named.name) files
+names_lent [] = refl
+names_lent (named ∷ files) = ap (λ (names : List (Bor (List ℕ))). named.name ∷ names) (names_lent files)
+
+forms_lent : (files : List NamedFile) → AllByRecursion (λ named. IsFormOfFile named.file) files → AllByRecursion IsForm (map part_lent files)
+forms_lent [] all = tt
+forms_lent (named ∷ files) all = (all.0, forms_lent files all.1)
+
+pub parts_lent : (names : List (Bor (List ℕ))) (files : List NamedFile) (parts : List Part) → AreFilesOf names files → parts ≡ map part_lent files
+    → ArePartsOf names parts
+parts_lent names files parts are is =
+    subst (ArePartsOf names) (sym is) (names_lent files ∙ are.0, forms_lent files are.1)
 
 -- a form of a file has no compressed timestamp
 pub plain_parts : (parts : List Part) → AllByRecursion IsForm parts → AllByRecursion IsPlainPart parts
@@ -58,3 +73,9 @@ pub others_plain : (parts : List Part) → AllByRecursion IsPlainPart parts
 others_plain [] all = tt
 others_plain (first ∷ parts) all =
     subst (AllByRecursion IsPlainPart) (sym (take_all (length (first ∷ parts) - 1) parts (omega arith))) all.1
+
+-- a row of some is one and those after it
+pub split_first : {X : Type 0} (xs : List X) (x : X) → 1 ≤ length xs → x ≡ get_or xs 0 x → xs ≡ x ∷ take (length xs - 1) (drop 1 xs)
+split_first [] x some is = absurd (omega arith)
+split_first {X = X} (first ∷ xs) x some is =
+    ap (λ (y : X). y ∷ xs) (sym is) ∙ ap (λ (ys : List X). x ∷ ys) (sym (take_all (length (first ∷ xs) - 1) xs (omega arith)))

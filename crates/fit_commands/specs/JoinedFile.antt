@@ -8,8 +8,6 @@ use Rattle.fit_grammar.specs.Format.Message.{messages_of}
 use Rattle.fit_files.specs.Printed.PlainFile.{messages_text}
 use Rattle.fit_finishing.specs.declared.finishing.Finishing.{Finishing}
 use Rattle.fit_finishing.specs.Finished.{IsFinishing}
-use Rattle.fit_joining.specs.declared.join.JoinFault.{JoinFault}
-use Rattle.fit_joining.specs.declared.join.JoinFault.TheVariants as joins
 use Rattle.fit_joining.specs.declared.misfit.Misfit.{Misfit}
 use Rattle.fit_joining.specs.declared.misfit.MisfitKind.{MisfitKind}
 use Rattle.fit_joining.specs.declared.misfit.MisfitKind.TheVariants as misfits
@@ -21,11 +19,7 @@ use Rattle.fit_commands.specs.Faults.{IsFormReported, IsNotFinishedReported, IsN
 use Rattle.fit_commands.specs.Reported.{IsFormOfFile, IsOutputReported}
 use Rattle.fit_commands.specs.declared.fault.Fault.{Fault}
 use Rattle.fit_commands.specs.declared.fault.Fault.TheVariants as faults
-
--- for parts that are not joined
-abbrev pub fault_of_join : JoinFault → Fault
-fault_of_join joins.TooLong = faults.TooLarge
-fault_of_join joins.Memory = faults.NoMemory
+use Rattle.fit_commands.specs.declared.join.NamedFile.{NamedFile}
 
 -- for a part that does not go with those before it
 abbrev pub fault_by : Bor (List ℕ) → MisfitKind → Fault
@@ -40,10 +34,20 @@ abbrev pub ArePartsOf : List (Bor (List ℕ)) → List Part → Type 0
 ArePartsOf names parts =
     (map (λ part. part.name) parts ≡ names) × AllByRecursion (λ part. IsFormOfFile part.file) parts
 
--- the part of this name was added to these
-abbrev pub AddsPart : Bor (List ℕ) → List Part → List Part → Type 0
-AddsPart name old new =
-    (part : Part) × (part.name ≡ name) × IsFormOfFile part.file × (new ≡ old ++ part ∷ [])
+-- the same of the files that are to be parts
+abbrev pub part_lent : NamedFile → Part
+part_lent named = record { name = named.name; file = named.file }
+
+abbrev pub AreFilesOf : List (Bor (List ℕ)) → List NamedFile → Type 0
+AreFilesOf names files =
+    (map (λ named. named.name) files ≡ names)
+    × AllByRecursion (λ named. IsFormOfFile named.file) files
+
+-- the file of this name was added to these
+abbrev pub AddsFile : Bor (List ℕ) → List NamedFile → List NamedFile → Type 0
+AddsFile name old new =
+    (named : NamedFile) × (named.name ≡ name) × IsFormOfFile named.file
+    × (new ≡ old ++ named ∷ [])
 
 -- Parts as they are joined: in the order of their times, in which each of them goes with those before it. With `as_given` they stay as they
 -- are.
@@ -76,12 +80,16 @@ AreNotPut false given reported =
     ⊎ ((parts : List Part) × IsInOrder given parts
     × (misfit : Misfit) × (first_misfit parts ≡ Some misfit) × (reported ≡ fault_of_misfit misfit))
 
+-- of writing the joined file: it is too large, or memory was refused
+abbrev pub IsNotWrittenOut : Fault → Type 0
+IsNotWrittenOut reported = (reported ≡ faults.TooLarge) ⊎ (reported ≡ faults.NoMemory)
+
 -- of joining them: one of them is none, or does not go with those before it, or they are not joined
 abbrev pub IsNotJoined : Bool → List (Bor (List ℕ)) → Fault → Type 0
 IsNotJoined as_given names reported =
     AreNoParts names reported
     ⊎ ((given : List Part) × ArePartsOf names given × AreNotPut as_given given reported)
-    ⊎ ((why : JoinFault) × (reported ≡ fault_of_join why))
+    ⊎ IsNotWrittenOut reported
 
 -- of writing that as an activity into a file of this name
 abbrev pub IsJoinReported : Bool → List (Bor (List ℕ)) → Bor (List ℕ) → Fault → Type 0

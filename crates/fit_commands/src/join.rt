@@ -1,8 +1,15 @@
 // The subcommand `join`: one activity of several files.
 
-ghost use Rattle.std.specs.Prelude.{◌≡◌, ◌∷◌, [], IfOk, IfErr, OnOk};
+ghost use Rattle.std.specs.Prelude.{◌≡◌, ◌∷◌, [], map, IfOk, IfErr, OnOk};
+ghost use Rattle.std.specs.List.{AllByRecursion};
+ghost use Rattle.fit_grammar.specs.Format.File.{FileOf};
+ghost use Rattle.fit_grammar.specs.Format.Message.{messages_of};
+ghost use Rattle.fit_grammar.specs.Format.Records.{data_size};
+ghost use Rattle.fit_grammar.specs.Calls.PlainForm.{IsPlain};
+ghost use Rattle.fit_joining.specs.Joined.{joined_messages};
+ghost use Rattle.fit_joining.specs.JoinedItems.{joined_file};
 ghost use Rattle.fit_commands.specs.Reported.{IsFormOfFile, PrintsNothing};
-ghost use Rattle.fit_commands.specs.JoinedFile.{AreNoParts, AreNotPut, ArePartsOf, ArePut, AddsPart, IsJoinedFile, IsJoinReported, IsNoPart, IsNotJoined, JoinsFiles, fault_of_join, fault_of_misfit};
+ghost use Rattle.fit_commands.specs.JoinedFile.{AddsFile, AreFilesOf, AreNoParts, AreNotPut, ArePut, IsJoinedFile, IsJoinReported, IsNoPart, IsNotJoined, IsNotWrittenOut, JoinsFiles, part_lent, fault_of_misfit};
 
 use crate::beside::write_whole;
 use crate::fault::Fault;
@@ -10,8 +17,10 @@ use crate::finish::finish_file;
 use crate::input::fault_of_report;
 use crate::plain::plain_of;
 use fit_files::{count_messages, print_messages};
-use fit_grammar::{FaultKind, File};
-use fit_joining::{JoinFault, Misfit, MisfitKind, Part, first_misfit, join_files, put_in_order};
+use fit_grammar::{FaultKind, File, decode_file};
+use fit_joining::{
+    Misfit, MisfitKind, Part, first_misfit, put_in_order, write_joined, write_joined_records,
+};
 use std::alloc::Global;
 use std::io::Write;
 use std::rt::Files;
@@ -44,6 +53,13 @@ pub fn join_parts<'a, O: Write>(
     }
 }
 
+// A file that is to be a part, and its name.
+#[derive(Drop)]
+struct NamedFile<'a> {
+    name: &'a str,
+    file: File,
+}
+
 // The file of the parts of these names.
 fn joined_of<'a, R: Files + AllocGlobal>(
     rt: &R,
@@ -54,20 +70,82 @@ fn joined_of<'a, R: Files + AllocGlobal>(
     ensures joined { IfOk result (IsJoinedFile as_given (first.entry ∷ others.now)) }
     ensures reported { IfErr result (IsNotJoined as_given (first.entry ∷ others.now)) }
 {
-    let mut parts = parts_of(rt, first, others)?;
+    let files = files_of(rt, first, others)?;
+    let mut parts = parts_of(rt.alloc(), files.as_slice())?;
     put_parts(as_given, &mut parts)?;
     // There is one part at least.
     let [beginning, rest @ ..] = parts.as_slice() else {
         return Err(Fault::NoSample);
     };
-    match join_files(rt.alloc(), beginning, rest) {
+    join_put(rt.alloc(), beginning, rest)
+}
+
+// The file of these parts.
+fn join_put<'a>(
+    alloc: Global,
+    first: &Part<'_, '_>,
+    others: &[Part<'_, '_>],
+) -> Result<File, Fault<'a>>
+    requires first { AllByRecursion IsPlain first.now.file.items }
+    requires others { AllByRecursion (λ part. AllByRecursion IsPlain part.file.items) others.now }
+    ensures messages { IfOk result (λ joined. messages_of joined.items
+        ≡ joined_messages (messages_of first.now.file.items
+        ∷ map (λ part. messages_of part.file.items) others.now)) }
+    ensures reported { IfErr result IsNotWrittenOut }
+{
+    let bytes = bytes_of(alloc, first, others)?;
+    match decode_file(alloc, &bytes) {
         Ok(joined) => Ok(joined),
-        Err(fault) => Err(fault_of(fault)),
+        Err(_) => Err(Fault::NoMemory),
+    }
+}
+
+// The bytes of that file.
+fn bytes_of<'a>(
+    alloc: Global,
+    first: &Part<'_, '_>,
+    others: &[Part<'_, '_>],
+) -> Result<Vec<u8>, Fault<'a>>
+    requires first { AllByRecursion IsPlain first.now.file.items }
+    requires others { AllByRecursion (λ part. AllByRecursion IsPlain part.file.items) others.now }
+    ensures file { IfOk result
+        (λ bytes. FileOf bytes.items (joined_file first.now others.now)) }
+    ensures messages { OnOk result (messages_of (joined_file first.now others.now).items
+        ≡ joined_messages (messages_of first.now.file.items
+        ∷ map (λ part. messages_of part.file.items) others.now)) }
+    ensures reported { IfErr result IsNotWrittenOut }
+{
+    let size = size_of_records(alloc, first, others)?;
+    let mut bytes = Vec::new(alloc);
+    match write_joined(first, others, size, &mut bytes) {
+        Ok(()) => Ok(bytes),
+        Err(_) => Err(Fault::NoMemory),
+    }
+}
+
+// How many bytes its records have.
+fn size_of_records<'a>(
+    alloc: Global,
+    first: &Part<'_, '_>,
+    others: &[Part<'_, '_>],
+) -> Result<u32, Fault<'a>>
+    requires first { AllByRecursion IsPlain first.now.file.items }
+    requires others { AllByRecursion (λ part. AllByRecursion IsPlain part.file.items) others.now }
+    ensures size { IfOk result
+        (λ size. size ≡ data_size (joined_file first.now others.now).items) }
+    ensures reported { IfErr result IsNotWrittenOut }
+{
+    let mut records = Vec::new(alloc);
+    let done = write_joined_records(first, others, &mut records);
+    match done {
+        Ok(()) if records.len() <= u32::MAX as usize => Ok(records.len() as u32),
+        Ok(()) => Err(Fault::TooLarge),
+        Err(_) => Err(Fault::NoMemory),
     }
 }
 
 // Puts parts in the order of their times, and refuses the first that does not go with those before it, if they are not taken as given.
-fn put_parts<'a>(as_given: bool, parts: &mut Vec<Part<'a>>) -> Result<(), Fault<'a>>
+fn put_parts<'a>(as_given: bool, parts: &mut Vec<Part<'a, '_>>) -> Result<(), Fault<'a>>
     ensures put { OnOk result (ArePut as_given parts.old.items parts.new.items) }
     ensures reported { IfErr result (AreNotPut as_given parts.old.items) }
 {
@@ -83,36 +161,59 @@ fn put_parts<'a>(as_given: bool, parts: &mut Vec<Part<'a>>) -> Result<(), Fault<
     }
 }
 
-// The parts of these names.
-fn parts_of<'a, R: Files + AllocGlobal>(
-    rt: &R,
-    first: &'a str,
-    others: &[&'a str],
-) -> Result<Vec<Part<'a>>, Fault<'a>>
-    ensures parts { IfOk result (λ parts. ArePartsOf (first.entry ∷ others.now) parts.items) }
-    ensures reported { IfErr result (AreNoParts (first.entry ∷ others.now)) }
+// These files as parts.
+fn parts_of<'a, 'f>(
+    alloc: Global,
+    files: &'f [NamedFile<'a>],
+) -> Result<Vec<Part<'a, 'f>>, Fault<'a>>
+    ensures parts { IfOk result (λ parts. parts.items ≡ map part_lent files.now) }
+    ensures reported { IfErr result (λ fault. fault ≡ Fault.NoMemory) }
 {
-    let mut parts = Vec::new(rt.alloc());
-    add_part(rt, first, &mut parts)?;
-    let mut rest = others;
-    while let [name, more @ ..] = rest {
-        add_part(rt, *name, &mut parts)?;
-        rest = more;
+    let mut parts = Vec::new(alloc);
+    let mut rest = files;
+    while let [named, more @ ..] = rest {
+        let part = Part {
+            name: named.name,
+            file: named.file.lend(),
+        };
+        match parts.push(part) {
+            Ok(()) => rest = more,
+            Err(_) => return Err(Fault::NoMemory),
+        }
     }
     Ok(parts)
 }
 
-// Adds the part of this name.
-fn add_part<'a, R: Files + AllocGlobal>(
+// The files of these names.
+fn files_of<'a, R: Files + AllocGlobal>(
+    rt: &R,
+    first: &'a str,
+    others: &[&'a str],
+) -> Result<Vec<NamedFile<'a>>, Fault<'a>>
+    ensures files { IfOk result (λ files. AreFilesOf (first.entry ∷ others.now) files.items) }
+    ensures reported { IfErr result (AreNoParts (first.entry ∷ others.now)) }
+{
+    let mut files = Vec::new(rt.alloc());
+    add_file(rt, first, &mut files)?;
+    let mut rest = others;
+    while let [name, more @ ..] = rest {
+        add_file(rt, *name, &mut files)?;
+        rest = more;
+    }
+    Ok(files)
+}
+
+// Adds the file of this name.
+fn add_file<'a, R: Files + AllocGlobal>(
     rt: &R,
     name: &'a str,
-    parts: &mut Vec<Part<'a>>,
+    files: &mut Vec<NamedFile<'a>>,
 ) -> Result<(), Fault<'a>>
-    ensures part { OnOk result (AddsPart name.entry parts.old.items parts.new.items) }
+    ensures file { OnOk result (AddsFile name.entry files.old.items files.new.items) }
     ensures reported { IfErr result (AreNoParts (name.entry ∷ [])) }
 {
     let file = part_of(rt, name)?;
-    match parts.push(Part { name, file }) {
+    match files.push(NamedFile { name, file }) {
         Ok(()) => Ok(()),
         Err(_) => Err(Fault::NoMemory),
     }
@@ -129,16 +230,6 @@ fn part_of<'a, R: Files + AllocGlobal>(rt: &R, name: &'a str) -> Result<File, Fa
             Err(Fault::NotPart(name, fault))
         }
         Err(fault) => Err(fault),
-    }
-}
-
-// The program's fault for parts that are not joined.
-fn fault_of<'a>(fault: JoinFault) -> Fault<'a>
-    ensures { result ≡ fault_of_join fault }
-{
-    match fault {
-        JoinFault::TooLong => Fault::TooLarge,
-        JoinFault::Memory => Fault::NoMemory,
     }
 }
 

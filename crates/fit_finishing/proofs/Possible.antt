@@ -1,6 +1,6 @@
 -- A finished file is a file: what is added to it fits into its bytes, and each message comes after its definition.
-use Rattle.std.proofs.Common.{◌≡◌, ℕ, ◌+◌, ◌<◌, ◌≤◌, ◌^◌, Bool, true, false, cond, List, [], ◌∷◌, ◌++◌, length, map, None, sym, subst, arith, append_assoc, append-nil}
-use Rattle.std.specs.Prelude.{zero, suc, flat_map, IsSomeAnd}
+use Rattle.std.proofs.Common.{◌≡◌, ℕ, ◌+◌, ◌<◌, ◌≤◌, ◌^◌, Bool, true, false, cond, List, [], ◌∷◌, ◌++◌, length, map, None, refl, sym, ap, ◌∙◌, subst, arith, append_assoc, append-nil}
+use Rattle.std.specs.Prelude.{zero, suc, flat_map, IsSomeAnd, ◌==◌}
 use Rattle.std.specs.Int.{byte_at, bytes_low_first}
 use Rattle.std.specs.List.{AllByRecursion}
 use Rattle.std.proofs.lemmas.List.{length-map}
@@ -24,12 +24,15 @@ use Rattle.fit_activity.specs.Messages.ProfileMessage.{file_id_message, event_me
 use Rattle.fit_activity.specs.declared.totals.summary.LapSummary.{LapSummary}
 use Rattle.fit_activity.specs.declared.totals.summary.SessionSummary.{SessionSummary}
 use Rattle.fit_activity.specs.declared.totals.summary.ActivitySummary.{ActivitySummary}
-use Rattle.fit_activity.specs.Messages.MessageBytes.{spelled, message_stated, IsWhole}
-use Rattle.fit_activity.specs.Messages.RideMessages.{closing_messages_of, closing_profile_messages_with, session_with}
+use Rattle.fit_activity.specs.Messages.Numbers.{session_global}
+use Rattle.fit_activity.specs.Messages.MessageBytes.{spelled, message_stated, IsWhole, speech_size}
+use Rattle.fit_activity.specs.Messages.RideMessages.{stop_messages, closing_messages_of, closing_profile_messages_with, session_with}
 use Rattle.fit_finishing.specs.declared.closing.Lacks.{Lacks}
+use Rattle.fit_finishing.specs.declared.effort.EffortSummary.{EffortSummary}
+use Rattle.fit_finishing.specs.Effort.{longer, speech_with}
 use Rattle.fit_finishing.specs.Lacking.{is_lacking, with_definition, added_items}
 use Rattle.fit_finishing.specs.Finished.{HasLocal}
-use Rattle.fit_finishing.proofs.Added.{still-in_force}
+use Rattle.fit_finishing.proofs.Added.{still-in_force, extended, longer-spelled}
 
 -- ---- a spelled message fits
 
@@ -106,35 +109,76 @@ fits-spelled m local global few are = record {
   content = content-below field_content (λ field. bytes-below 0 (row_of field.base).size field.value) m.fields;
 }
 
-pub opening-fits : (time serial : ℕ) → AllByRecursion FitsMessage (spelled (file_id_message time serial) ∷ [])
-opening-fits time serial =
-    (fits-spelled (file_id_message time serial) (omega arith) (omega arith) (omega arith) (omega arith, (omega arith, (omega arith, (omega arith, (omega arith, tt))))), tt)
+-- the closing messages as they are added
+abbrev closing_extended : EffortSummary → Bool → ℕ → LapSummary → SessionSummary → ActivitySummary → List ProfileMessage
+closing_extended effort stopped time lap session activity =
+    stop_messages stopped time ++ lap_message lap session_end ∷ extended effort (session_message session) ∷ activity_message activity ∷ []
 
-pub closing-fits : (laps : ℕ) (list : List Recorded) → AllByRecursion FitsMessage (map spelled (closing_profile_messages_with laps list))
-closing-fits laps list = go (has_stopped list)
+closing-extended : (effort : EffortSummary) (stopped : Bool) (time : ℕ) (lap : LapSummary) (session : SessionSummary) (activity : ActivitySummary)
+    → speech_with effort (map spelled (closing_messages_of stopped time lap session activity)) ≡ map spelled (closing_extended effort stopped time lap session activity)
+closing-extended effort true time lap session activity =
+    ap (λ m. spelled (lap_message lap session_end) ∷ m ∷ spelled (activity_message activity) ∷ []) (longer-spelled effort (session_message session))
+closing-extended effort false time lap session activity =
+    ap (λ m. spelled (event_message time stop_all_type) ∷ spelled (lap_message lap session_end) ∷ m ∷ spelled (activity_message activity) ∷ []) (longer-spelled effort (session_message session))
+
+-- what is added can be written, and has at most so many bytes
+pub record FitsSpeech (speech : List SpokenMessage) (most : ℕ) : Type 0 where
+  pub fit : AllByRecursion FitsMessage speech
+  pub whole : AllByRecursion IsWhole speech
+  pub size : speech_size speech ≤ most
+
+module _ (effort : EffortSummary) (time : ℕ) (lap : LapSummary) (session : SessionSummary) (activity : ActivitySummary) where
+  event-fits : FitsMessage (spelled (event_message time stop_all_type))
+  event-fits = fits-spelled (event_message time stop_all_type) (omega arith) (omega arith) (omega arith) (omega arith, (omega arith, (omega arith, tt)))
+
+  lap-fits : FitsMessage (spelled (lap_message lap session_end))
+  lap-fits = fits-spelled (lap_message lap session_end) (omega arith) (omega arith) (omega arith)
+      (omega arith, (omega arith, (omega arith, (omega arith, (omega arith, (omega arith, (omega arith, (omega arith, (omega arith, (omega arith, (omega arith, (omega arith, (omega arith, (omega arith, (omega arith, tt)))))))))))))))
+
+  session-fits : FitsMessage (spelled (extended effort (session_message session)))
+  session-fits = fits-spelled (extended effort (session_message session)) (omega arith) (omega arith) (omega arith)
+      (omega arith, (omega arith, (omega arith, (omega arith, (omega arith, (omega arith, (omega arith, (omega arith, (omega arith, (omega arith, (omega arith, (omega arith, (omega arith, (omega arith, (omega arith, (omega arith, (omega arith, (omega arith, (omega arith, (omega arith, (omega arith, (omega arith, tt))))))))))))))))))))))
+
+  activity-fits : FitsMessage (spelled (activity_message activity))
+  activity-fits = fits-spelled (activity_message activity) (omega arith) (omega arith) (omega arith) (omega arith, (omega arith, (omega arith, (omega arith, (omega arith, (omega arith, tt))))))
+
+  extended-fit : (stopped : Bool) → FitsSpeech (map spelled (closing_extended effort stopped time lap session activity)) 265
+  extended-fit true = record {
+    fit = (lap-fits, (session-fits, (activity-fits, tt)));
+    whole = (refl, (refl, (refl, tt)));
+    size = omega arith;
+  }
+  extended-fit false = record {
+    fit = (event-fits, (lap-fits, (session-fits, (activity-fits, tt))));
+    whole = (refl, (refl, (refl, (refl, tt))));
+    size = omega arith;
+  }
+
+pub closing-fits : (effort : EffortSummary) (laps : ℕ) (list : List Recorded) (speech : List SpokenMessage) → speech ≡ map spelled (closing_profile_messages_with laps list)
+    → FitsSpeech (speech_with effort speech) 265
+closing-fits effort laps list speech is =
+    let session = session_with laps list in
+    let same = ap (speech_with effort) is ∙ closing-extended effort (has_stopped list) (end_time list) (lap_of list) session (activity_of list) in
+    subst (λ xs. FitsSpeech xs 265) (sym same) (extended-fit effort (end_time list) (lap_of list) session (activity_of list) (has_stopped list))
+
+pub opening-fits : (effort : EffortSummary) (time serial : ℕ) (speech : List SpokenMessage) → speech ≡ spelled (file_id_message time serial) ∷ []
+    → FitsSpeech (speech_with effort speech) 35
+opening-fits effort time serial speech is =
+    let own = spelled (file_id_message time serial) ∷ [] in
+    let fits : FitsSpeech own 35 = record {
+      fit = (fits-spelled (file_id_message time serial) (omega arith) (omega arith) (omega arith) (omega arith, (omega arith, (omega arith, (omega arith, (omega arith, tt))))), tt);
+      whole = (refl, tt);
+      size = omega arith;
+    } in
+    subst (λ xs. FitsSpeech xs 35) (sym (ap (speech_with effort) is)) fits
+
+pub fits-local : (effort : EffortSummary) (speech : List SpokenMessage) → AllByRecursion FitsMessage (speech_with effort speech) → AllByRecursion HasLocal speech
+fits-local effort [] fit = tt
+fits-local effort (m ∷ speech) fit = (go (m.definition.global == session_global) fit.0, fits-local effort speech fit.1)
   where
-    event : (time : ℕ) → FitsMessage (spelled (event_message time stop_all_type))
-    event time = fits-spelled (event_message time stop_all_type) (omega arith) (omega arith) (omega arith) (omega arith, (omega arith, (omega arith, tt)))
-
-    lap : (l : LapSummary) → FitsMessage (spelled (lap_message l session_end))
-    lap l = fits-spelled (lap_message l session_end) (omega arith) (omega arith) (omega arith)
-        (omega arith, (omega arith, (omega arith, (omega arith, (omega arith, (omega arith, (omega arith, (omega arith, (omega arith, (omega arith, (omega arith, (omega arith, (omega arith, (omega arith, (omega arith, tt)))))))))))))))
-
-    session : (s : SessionSummary) → FitsMessage (spelled (session_message s))
-    session s = fits-spelled (session_message s) (omega arith) (omega arith) (omega arith)
-        (omega arith, (omega arith, (omega arith, (omega arith, (omega arith, (omega arith, (omega arith, (omega arith, (omega arith, (omega arith, (omega arith, (omega arith, (omega arith, (omega arith, (omega arith, (omega arith, (omega arith, (omega arith, (omega arith, tt)))))))))))))))))))
-
-    activity : (a : ActivitySummary) → FitsMessage (spelled (activity_message a))
-    activity a = fits-spelled (activity_message a) (omega arith) (omega arith) (omega arith) (omega arith, (omega arith, (omega arith, (omega arith, (omega arith, (omega arith, tt))))))
-
-    go : (stopped : Bool)
-        → AllByRecursion FitsMessage (map spelled (closing_messages_of stopped (end_time list) (lap_of list) (session_with laps list) (activity_of list)))
-    go true = (lap (lap_of list), (session (session_with laps list), (activity (activity_of list), tt)))
-    go false = (event (end_time list), (lap (lap_of list), (session (session_with laps list), (activity (activity_of list), tt))))
-
-pub fits-local : (speech : List SpokenMessage) → AllByRecursion FitsMessage speech → AllByRecursion HasLocal speech
-fits-local [] fit = tt
-fits-local (m ∷ speech) fit = (fit.0.local, fits-local speech fit.1)
+    go : (b : Bool) → FitsMessage (cond b (longer effort m) m) → HasLocal m
+    go true fit = fit.local
+    go false fit = fit.local
 
 -- ---- what is added can stand where it is added
 
@@ -188,18 +232,17 @@ pub closed-follow : (lacks : Lacks) (items : List Item) (closing : List SpokenMe
 closed-follow lacks items closing own fit whole =
     joined-follow [] items (added_items lacks closing) own (added-follow lacks items closing fit whole)
 
-pub possible : (v : FileValue) (lacks : Lacks) (opening closing : List SpokenMessage) → CanBeFile v
-    → AllByRecursion FitsMessage opening → AllByRecursion IsWhole opening → AllByRecursion FitsMessage closing → AllByRecursion IsWhole closing
-    → data_size (added_items lacks opening) ≤ 35 → data_size (added_items lacks closing) ≤ 252 → data_size v.items + 35 + 252 < 2 ^ 32
+pub possible : (v : FileValue) (lacks : Lacks) (opening closing : List SpokenMessage) → CanBeFile v → FitsSpeech opening 35 → FitsSpeech closing 265
+    → data_size (added_items lacks opening) ≤ 35 → data_size (added_items lacks closing) ≤ 265 → data_size v.items + 35 + 265 < 2 ^ 32
     → CanBeFile (with_items (added_items lacks opening) v (added_items lacks closing))
-possible v lacks opening closing is opening-fit opening-whole closing-fit closing-whole few more room =
+possible v lacks opening closing is first_fits last_fits few more room =
     let first = added_items lacks opening in
     let last = added_items lacks closing in
     record {
       is_frame = is.is_frame;
       frame_fits = is.frame_fits;
-      items_follow = joined-follow [] first (v.items ++ last) (added-follow lacks [] opening opening-fit opening-whole)
+      items_follow = joined-follow [] first (v.items ++ last) (added-follow lacks [] opening first_fits.fit first_fits.whole)
           (subst (λ (l : List Item). AllCanFollow l (v.items ++ last)) (append-nil first)
-          (more-follow first [] (v.items ++ last) (closed-follow lacks v.items closing is.items_follow closing-fit closing-whole)));
+          (more-follow first [] (v.items ++ last) (closed-follow lacks v.items closing is.items_follow last_fits.fit last_fits.whole)));
       bound = omega (arith, few, more, room, sum_by-append item_size first (v.items ++ last), sum_by-append item_size v.items last);
     }

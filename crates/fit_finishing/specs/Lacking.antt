@@ -1,5 +1,5 @@
 -- Which messages a file lacks at its beginning and at its end, and the items that they are added as.
-use Rattle.std.specs.Prelude.{ℕ, ◌+◌, Bool, false, List, [], ◌∷◌, None, min, not, nat_le, count_by, flat_map, ◌==◌, ◌&&◌, ◌||◌, if◌then◌else◌}
+use Rattle.std.specs.Prelude.{ℕ, ◌+◌, Bool, false, List, [], ◌∷◌, None, min, not, nat_le, count_by, map, flat_map, ◌==◌, ◌&&◌, ◌||◌, if◌then◌else◌}
 use Rattle.std.specs.List.{filter}
 use Rattle.fit_grammar.specs.Format.Item.{Item, Defines, Data}
 use Rattle.fit_grammar.specs.Format.Message.{Message}
@@ -12,6 +12,7 @@ use Rattle.fit_activity.specs.Messages.SpokenMessage.{SpokenMessage}
 use Rattle.fit_activity.specs.Messages.MessageBytes.{message_stated}
 use Rattle.fit_activity.specs.Messages.RideMessages.{closing_with}
 use Rattle.fit_finishing.specs.declared.closing.Lacks.{Lacks}
+use Rattle.fit_finishing.specs.Effort.{effort_of, with_effort}
 
 -- A file lacks the lap that is open if it has no lap; or if it has no session, and each of its laps is in the list.
 abbrev pub lacks_lap : ℕ → ℕ → ℕ → Bool
@@ -55,6 +56,10 @@ laps_stated laps = min laps 65535
 abbrev pub opening : List Recorded → List Message
 opening list = as_message (file_id_message (start_time list) 0) ∷ []
 
+-- the closing messages of the list, with so many laps, and with cadence and ascent in the session
+abbrev pub closing_with_effort : ℕ → List Recorded → List Message
+closing_with_effort laps list = map (with_effort (effort_of list)) (closing_with laps list)
+
 -- the first message and the closing ones of the list, without those that the file has; the session has the laps of the finished file
 abbrev pub opening_for : List Message → List Recorded → List Message
 opening_for messages list = filter (is_lacking (lacks_in messages list)) (opening list)
@@ -62,7 +67,7 @@ opening_for messages list = filter (is_lacking (lacks_in messages list)) (openin
 abbrev pub closing_for : List Message → List Recorded → List Message
 closing_for messages list =
     let lacks = lacks_in messages list in
-    filter (is_lacking lacks) (closing_with (laps_stated (laps_finished lacks messages)) list)
+    filter (is_lacking lacks) (closing_with_effort (laps_stated (laps_finished lacks messages)) list)
 
 -- a message after its definition, if it is lacking
 abbrev pub with_definition : SpokenMessage → List Item

@@ -1,5 +1,6 @@
 pub mod Entries
 pub mod Heard
+pub mod Effort
 pub mod Lacking
 pub mod Finished
 pub mod Private

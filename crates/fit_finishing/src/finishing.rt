@@ -11,6 +11,7 @@ ghost use Rattle.fit_finishing.specs.Finished.{FitsFile, IsFinishable, IsFinishi
 
 use crate::adding::write_lacking;
 use crate::closing::{Lacks, lacks_in, laps_of};
+use crate::effort::EffortSummary;
 use crate::hearing::{Hearing, hear};
 use crate::sport::sport_in;
 use fit_activity::{
@@ -21,13 +22,15 @@ use fit_grammar::{File, LentFile, Sink, encode_extended, encode_file_extended};
 // The most bytes of a file_id, and of closing messages.
 const MOST_OPENING: u32 = 35;
 
-const MOST_CLOSING: u32 = 252;
+const MOST_CLOSING: u32 = 265;
 
-/// What finishes an activity: its file_id and its closing messages, which of them its file lacks, and how many entries were heard.
+/// What finishes an activity: its file_id and its closing messages, the cadence and the ascent that its session has besides, which of the
+/// messages its file lacks, and how many entries were heard.
 #[derive(Drop)]
 pub struct Finishing {
     opening: Speech,
     closing: Speech,
+    effort: EffortSummary,
     lacks: Lacks,
     /// How many entries were heard and taken, without the start.
     pub taken: u32,
@@ -73,6 +76,7 @@ impl Finishing {
         Ok(Finishing {
             opening,
             closing,
+            effort: ride.effort.summary(),
             lacks,
             taken: ride.taken,
             left_out: ride.left_out,
@@ -94,8 +98,8 @@ impl Finishing {
     {
         let mut before = [0; MOST_OPENING as usize];
         let mut after = [0; MOST_CLOSING as usize];
-        let first = write_lacking(&self.opening, self.lacks, &mut before);
-        let last = write_lacking(&self.closing, self.lacks, &mut after);
+        let first = write_lacking(&self.opening, self.effort, self.lacks, &mut before);
+        let last = write_lacking(&self.closing, self.effort, self.lacks, &mut after);
         encode_extended(&before[..first], file, &after[..last], out)
     }
 
@@ -107,8 +111,8 @@ impl Finishing {
     {
         let mut before = [0; MOST_OPENING as usize];
         let mut after = [0; MOST_CLOSING as usize];
-        let first = write_lacking(&self.opening, self.lacks, &mut before);
-        let last = write_lacking(&self.closing, self.lacks, &mut after);
+        let first = write_lacking(&self.opening, self.effort, self.lacks, &mut before);
+        let last = write_lacking(&self.closing, self.effort, self.lacks, &mut after);
         encode_file_extended(&before[..first], file, &after[..last], out)
     }
 }

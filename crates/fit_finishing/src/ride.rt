@@ -4,12 +4,14 @@ ghost use Rattle.std.specs.Prelude.{◌≡◌, ◌<◌, ◌+◌, ◌^◌, ◌∷
 ghost use Rattle.fit_finishing.specs.Heard.{Heard as AnyHeard, added, settled, followed_by, is_idle, start_by, starts};
 ghost use Rattle.fit_finishing.specs.Private.Ride.{IsRide, HasRoom, started_after};
 
+use crate::effort::Effort;
 use fit_activity::{Entry, Sport, Start, Totals};
 
 // What was heard of a ride.
 #[derive(Drop)]
 pub(crate) struct Ride {
     pub(crate) totals: Totals,
+    pub(crate) effort: Effort,
     // The end of a lap that no entry followed yet.
     pub(crate) lap: Option<u32>,
     // How many entries were taken after the start, and how many were left out.
@@ -39,6 +41,7 @@ impl Ride {
         }
         Some(Ride {
             totals: Totals::start(&start),
+            effort: Effort::NONE,
             lap: None,
             taken: 0,
             left_out,
@@ -93,6 +96,7 @@ impl Ride {
             return;
         }
         self.totals.add(entry);
+        self.effort.add(entry);
         self.taken += 1;
         if let Entry::Sample(_) = entry {
             self.sampled = true;

@@ -17,6 +17,7 @@ pub mod Fed
 pub mod BeginningHeader
 pub mod Framed
 pub mod Output
+pub mod CheckedOutput
 pub mod FaultCode
 pub mod FaultName
 pub mod ChangedContent

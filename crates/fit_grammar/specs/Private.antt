@@ -14,7 +14,6 @@ pub mod KeptFile
 pub mod ItemsLeft
 pub mod Decoding
 pub mod Feeding
-pub mod CheckedOutput
 pub mod ItemsWritten
 pub mod LentRow
 pub mod Passing

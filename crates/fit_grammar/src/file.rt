@@ -34,7 +34,7 @@ use crate::item::{ItemFault, Items, least_length};
 use crate::message::Messages;
 pub use decode::decode_file;
 pub use decoder::Decoder;
-pub use encode::{encode_file, encode_records, header_front};
+pub use encode::{encode_file, encode_records, header_front, put_checked, put_header};
 pub use extending::{encode_extended, encode_file_extended};
 pub use fault::{EncodeFault, FaultKind, FileFault, PutFault};
 pub use frame::Frame;

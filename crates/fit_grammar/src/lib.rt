@@ -42,7 +42,7 @@ pub use definition::{
 pub use file::{
     Decoder, EncodeFault, FaultKind, File, FileFault, Frame, Header, LentFile, Places, PutFault,
     decode_file, encode_extended, encode_file, encode_file_extended, encode_records, header_front,
-    read_header_front,
+    put_checked, put_header, read_header_front,
 };
 pub use item::{
     DataMessage, FileItem, Item, ItemFault, Items, Step, least_length, longest_front, next_item,
@@ -53,6 +53,7 @@ pub use message::{
     message_of,
 };
 pub use plain::{
-    PlainFault, PlainFaultKind, WritePlainFault, plain_file, write_plain, write_plain_records,
+    PlainFault, PlainFaultKind, WritePlainFault, plain_file, put_definition, write_plain,
+    write_plain_records,
 };
 pub use sink::{Sink, WriteFailed};

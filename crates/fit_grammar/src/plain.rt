@@ -15,7 +15,7 @@ use crate::file::{File, Places};
 pub use fault::{PlainFault, PlainFaultKind};
 use making::Plain;
 use std::alloc::Global;
-pub use writing::{WritePlainFault, write_plain, write_plain_records};
+pub use writing::{WritePlainFault, put_definition, write_plain, write_plain_records};
 
 /// Makes the plain form of a file, in which no message has a compressed timestamp. Each message that has one gets its time as
 /// field 253 in front of its content. If the last definition of its local number has no such field and the message needs one,

@@ -15,7 +15,7 @@ use Rattle.fit_grammar.proofs.Encoder.Encoded.{four_again}
 use Rattle.fit_grammar.proofs.OneValue.{values-of-one, size-of-one}
 use Rattle.fit_joining.specs.declared.tally.Tally.{Tally}
 use Rattle.fit_joining.specs.Part.{is_distance, is_lap_number, further, with_number, changed_values}
-use Rattle.fit_joining.specs.Private.Content.{distance_changed, lap_changed, bytes_changed, field_changed}
+use Rattle.fit_joining.specs.Content.{distance_changed, lap_changed, bytes_changed, field_changed}
 
 -- ---- a field of one number gets another, and others stay
 

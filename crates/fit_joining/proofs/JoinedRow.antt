@@ -1,44 +1,36 @@
--- The items of a part after those of the parts before: for `put_part`.
-use Rattle.std.proofs.Common.{◌≡◌, ℕ, Bool, true, false, List, [], ◌∷◌, ◌++◌, length, Option, Some, None, refl, sym, ap, subst, ◌∙◌, arith, append_assoc, append-nil, if◌then◌else◌}
+-- The items of the joined file: they are a file's, without compressed timestamps, and their messages are the joined ones. For
+-- `write_joined`.
+use Rattle.std.proofs.Common.{◌≡◌, ℕ, ◌<◌, Bool, true, false, List, [], ◌∷◌, ◌++◌, length, map, Option, Some, None, refl, sym, ap, subst, ◌∙◌, arith, append_assoc, append-nil, if◌then◌else◌}
 use Rattle.std.specs.Prelude.{option_map, option_to_list, unwrap_or, IsSomeAnd}
 use Rattle.std.specs.List.{AllByRecursion}
 use Rattle.std.specs.Option.{option_or}
 use Rattle.std.proofs.lemmas.Option.{none-some}
 use Rattle.fit_grammar.specs.declared.definition.Definition.{Definition}
 use Rattle.fit_grammar.specs.Format.Item.{Item, Defines, Data, content_size}
-use Rattle.fit_grammar.specs.Format.Records.{in_force, definition_by}
-use Rattle.fit_grammar.specs.Format.File.{FileValue}
+use Rattle.fit_grammar.specs.Format.Encoding.{encoded, encoded_item, encoded_items, HasEncoding}
+use Rattle.fit_grammar.specs.Format.Records.{in_force, definition_by, IsDefined, RecordsAfter}
+use Rattle.fit_grammar.specs.Format.File.{FileValue, FileOf, IsFrame}
 use Rattle.fit_grammar.specs.Format.Message.{Message, message_under, message_at, messages_after, messages_of, time_given}
 use Rattle.fit_grammar.specs.Calls.Table.{in_force_after}
-use Rattle.fit_grammar.specs.Calls.LentItem.{LentItem, DefinesHere, DataHere, LentData, data_under, items_lent, lent_after, message_here, messages_in, AllUnder}
+use Rattle.fit_grammar.specs.Calls.LentItem.{LentItem, DefinesHere, DataHere, LentData, items_lent, message_here, messages_in, AllUnder}
 use Rattle.fit_grammar.specs.Calls.PlainForm.{IsPlain}
-use Rattle.fit_grammar.specs.Calls.Possible.{AllCanFollow, CanBeFile}
-use Rattle.fit_grammar.proofs.KeptRow.InForce.{in_force-append, in_force-data}
+use Rattle.fit_grammar.specs.Calls.Possible.{CanBeFile}
+use Rattle.fit_grammar.proofs.Encoder.Encoded.{framed_is_file, framed_items}
+use Rattle.fit_grammar.proofs.Encoder.Encoding.{encoded_spells}
+use Rattle.fit_grammar.proofs.KeptRow.InForce.{in_force-append, in_force-data, in_force-defines}
+use Rattle.fit_grammar.proofs.KeptRow.Lent.{lent_messages, lent_under}
+use Rattle.fit_joining.specs.declared.part.Part.{Part}
 use Rattle.fit_joining.specs.declared.tally.Tally.{Tally}
 use Rattle.fit_joining.specs.Part.{changed, part, stays, tally_after, tally_past}
-use Rattle.fit_joining.specs.Private.Content.{content_changed}
-use Rattle.fit_joining.specs.Private.Row.{data_changed, item_added, counted, IsWhole, CanTake, JoinedSoFar}
-use Rattle.fit_joining.proofs.ChangedMessage.{message_again}
-
--- ---- items without compressed timestamps
-
-front_whole : (o : Option Definition) (local : ℕ) (content : List ℕ) (others : List LentItem)
-    → IsSomeAnd o (λ d. content_size d ≡ length content) → AllByRecursion IsWhole others
-    → AllByRecursion IsWhole (option_to_list (option_map (λ d. DataHere (data_under d local None None content)) o) ++ others)
-front_whole None local content others defined whole = absurd defined
-front_whole (Some d) local content others defined whole = ((refl, refl, defined), whole)
-
--- each is whole
-lent_whole : (before : List Item) (time : ℕ) (items : List Item) → AllCanFollow before items → AllByRecursion IsPlain items
-    → AllByRecursion IsWhole (lent_after before time items)
-lent_whole before time [] follow plain = tt
-lent_whole before time (Defines d ∷ items) follow plain = (tt, lent_whole (before ++ Defines d ∷ []) time items follow.1 plain.1)
-lent_whole before time (Data local (Some offset) content ∷ items) follow plain = absurd (none-some offset (sym plain.0))
-lent_whole before time (Data local None content ∷ items) follow plain =
-    let item = Data local None content in
-    let after = unwrap_or (time_given before time item) time in
-    front_whole (in_force before local) local content (lent_after (before ++ item ∷ []) after items) follow.0.defined
-    (lent_whole (before ++ item ∷ []) after items follow.1 plain.1)
+use Rattle.fit_joining.specs.Timer.{event_at, span_of, start_due, stop_due, timer_message}
+use Rattle.fit_joining.specs.Joined.{first_tally, is_followed, joined_after, joined_messages, joined_one, laps_stay, next_tally}
+use Rattle.fit_joining.specs.Content.{content_changed}
+use Rattle.fit_joining.specs.Events.{event_content, event_definition}
+use Rattle.fit_joining.specs.JoinedItems.{data_changed, event_items, items_after, joined_file, joined_items, one_items, part_items}
+use Rattle.fit_joining.specs.Private.Row.{IsWhole}
+use Rattle.fit_joining.proofs.ChangedMessage.{message_again, content_length}
+use Rattle.fit_joining.proofs.EventMessage.{event_stated}
+use Rattle.fit_joining.proofs.WrittenRow.{lent_whole}
 
 -- ---- one more item
 
@@ -69,7 +61,90 @@ all_and_last : (items : List Item) (item : Item) → AllByRecursion IsPlain item
 all_and_last [] item all last = (last, tt)
 all_and_last (first ∷ items) item all last = (all.0, all_and_last items item all.1 last)
 
--- ---- the file as it grows
+-- each item has an encoding, and each data message its definition
+abbrev AllStand : List Item → List Item → Type 0
+AllStand before [] = Unit {0}
+AllStand before (item ∷ items) = (HasEncoding item × IsDefined before item) × AllStand (before ++ item ∷ []) items
+
+stand_and_last : (before items : List Item) (item : Item) → AllStand before items → HasEncoding item → IsDefined (before ++ items) item
+    → AllStand before (items ++ item ∷ [])
+stand_and_last before [] item all encodes defined =
+    ((encodes, subst (λ (row : List Item). IsDefined row item) (append-nil before) defined), tt)
+stand_and_last before (first ∷ items) item all encodes defined = (
+  all.0,
+  stand_and_last (before ++ first ∷ []) items item all.1 encodes
+      (subst (λ (row : List Item). IsDefined row item) (sym (append_assoc before (first ∷ []) items)) defined),
+)
+
+stand_records : (before items : List Item) → AllStand before items → RecordsAfter before (encoded_items items) items
+stand_records before [] all = refl
+stand_records before (item ∷ items) all = (
+  encoded_items items,
+  record { own = encoded_item item; joined = refl; spelled = encoded_spells item all.0.0; defined = all.0.1 },
+  stand_records (before ++ item ∷ []) items all.1,
+)
+
+-- the bytes that such items are written as are a file of them
+stand_file : (v : FileValue) → IsFrame v.frame → AllStand [] v.items → FileOf (encoded v) v
+stand_file v frame all =
+    subst (λ (bytes : List ℕ). FileOf bytes v) (framed_items v v.frame (encoded_items v.items) refl refl)
+    (framed_is_file v.frame (encoded_items v.items) v.items frame (stand_records [] v.items all))
+
+-- ---- a row that grows
+
+-- to these items came more, with these messages
+pub record Grown (before after : List Item) (more : List Message) : Type 0 where
+  pub messages : messages_of after ≡ messages_of before ++ more
+  pub stand : AllStand [] before → AllStand [] after
+  pub plain : AllByRecursion IsPlain before → AllByRecursion IsPlain after
+
+grown_none : (before : List Item) → Grown before before []
+grown_none before = record { messages = sym (append-nil (messages_of before)); stand = λ all. all; plain = λ all. all }
+
+grown_then : {a b c : List Item} {m n : List Message} → Grown a b m → Grown b c n → Grown a c (m ++ n)
+grown_then {a = a} {m = m} {n = n} h k = record {
+  messages = k.messages ∙ ap (λ (l : List Message). l ++ n) h.messages ∙ append_assoc (messages_of a) m n;
+  stand = λ all. k.stand (h.stand all);
+  plain = λ all. k.plain (h.plain all);
+}
+
+grown_same : {a b c : List Item} {m n : List Message} → Grown a b m → b ≡ c → m ≡ n → Grown a c n
+grown_same {a = a} {b = b} {n = n} h is more =
+    subst (λ (row : List Item). Grown a row n) is (subst (λ (own : List Message). Grown a b own) more h)
+
+define_grows : (before : List Item) (d : Definition) → d.local < 16 → Grown before (before ++ Defines d ∷ []) []
+define_grows before d small = record {
+  messages = last_definition [] 0 before d ∙ sym (append-nil (messages_of before));
+  stand = λ all. stand_and_last [] before (Defines d) all small tt;
+  plain = λ all. all_and_last before (Defines d) all tt;
+}
+
+data_grows : (before : List Item) (local : ℕ) (content : List ℕ) (d : Definition) → in_force before local ≡ Some d → local < 16
+    → content_size d ≡ length content → Grown before (before ++ Data local None content ∷ []) (message_under d None content ∷ [])
+data_grows before local content d here small long = record {
+  messages = last_data [] 0 before local content d here;
+  stand = λ all. stand_and_last [] before (Data local None content) all small
+      (subst (λ (o : Option Definition). IsSomeAnd o (λ e. content_size e ≡ length content)) (sym here) long);
+  plain = λ all. all_and_last before (Data local None content) all refl;
+}
+
+-- ---- an event of the timer
+
+one_event : (before : List Item) (time type : ℕ) → Grown before (before ++ event_items (Some time) type) (timer_message time type ∷ [])
+one_event before time type =
+    let own = event_content time type in
+    let defined = before ++ Defines event_definition ∷ [] in
+    grown_same
+    (grown_then (define_grows before event_definition (omega arith))
+    (data_grows defined 0 own event_definition (in_force-defines before event_definition) (omega arith) refl))
+    (append_assoc before (Defines event_definition ∷ []) (Data 0 None own ∷ []))
+    (ap (λ (m : Message). m ∷ []) (event_stated time type))
+
+event_grows : (before : List Item) (time : Option ℕ) (type : ℕ) → Grown before (before ++ event_items time type) (event_at time type)
+event_grows before None type = grown_same (grown_none before) (sym (append-nil before)) refl
+event_grows before (Some time) type = one_event before time type
+
+-- ---- a part
 
 abbrev AreInForce : (ℕ → Option Definition) → List Item → Type 0
 AreInForce f items = (l : ℕ) (d : Definition) → f l ≡ Some d → in_force items l ≡ Some d
@@ -87,93 +162,95 @@ data_on : (f : ℕ → Option Definition) (items : List Item) (local : ℕ) (con
     → AreInForce f (items ++ Data local None content ∷ [])
 data_on f items local content are l d is = in_force-data items local None content l ∙ are l d is
 
--- before the first item of a part
-pub started : (v : FileValue) (before : List Item) (t : Tally) (left : List LentItem) → CanBeFile v → AllByRecursion IsPlain v.items
-    → left ≡ items_lent v.items → AllUnder (in_force []) left → messages_in left ≡ messages_of v.items
-    → JoinedSoFar before t t (messages_of v.items) before left
-started v before t left can plain all under same = record {
-  definition_for = in_force [];
-  under = under;
-  in_force_too = λ l d is. absurd (none-some d is);
-  whole = rw all (lent_whole [] 0 v.items can.items_follow plain);
-  messages = ap (λ (ms : List Message). messages_of before ++ part t ms) same;
-  tally = ap (tally_past t) same;
-  written_out = λ plain_before. plain_before;
-}
+-- a data message that stays
+stays_grows : (before : List Item) (t : Tally) (m : LentData) → in_force before m.local ≡ Some m.definition → m.local < 16 → IsWhole (DataHere m)
+    → Grown before (before ++ data_changed t m ∷ []) (changed t (message_here m) ∷ [])
+stays_grows before t m here small whole =
+    let d = m.definition in
+    let bytes = content_changed t d.global d.arch d.fields.items m.content in
+    grown_same (data_grows before m.local bytes d here small (whole.2 ∙ sym (content_length t d m.content (omega (arith, whole.2))))) refl
+    (ap (λ (own : Message). own ∷ [])
+    (message_again t d m.content (omega (arith, whole.2))
+    ∙ ap (λ (time : Option ℕ). changed t (message_under d time m.content)) (sym whole.1)))
 
--- the next item can be added
-pub can_take : (before : List Item) (first now : Tally) (all : List Message) (items : List Item) (item : LentItem) (left : List LentItem)
-    → JoinedSoFar before first now all items (item ∷ left) → CanTake items item
-can_take before first now all items (DefinesHere d) left s =
-    let under = s.under in under.0
-can_take before first now all items (DataHere m) left s =
-    let under = s.under in
-    let whole = s.whole in
-    (s.in_force_too m.local m.definition under.1, whole.0)
+by_stays : (b : Bool) (before : List Item) (t u : Tally) (own : Item) (left : List LentItem) (message : Message) (messages : List Message)
+    → Grown before (before ++ (own ∷ [] ++ part_items u left)) (message ∷ part u messages)
+    → Grown before (before ++ part_items t left) (part t messages)
+    → Grown before (before ++ ((if b then own ∷ [] else []) ++ part_items (if b then u else t) left))
+    (if b then message ∷ part u messages else part t messages)
+by_stays true before t u own left message messages stay go = stay
+by_stays false before t u own left message messages stay go = go
 
--- after it
-message_stated : (t : Tally) (items : List Item) (m : LentData) → in_force items m.local ≡ Some m.definition → IsWhole (DataHere m)
-    → messages_of (items ++ data_changed t m ∷ []) ≡ messages_of items ++ changed t (message_here m) ∷ []
-message_stated t items m here whole =
+items_grow : (f : ℕ → Option Definition) (before : List Item) (t : Tally) (left : List LentItem) → AllUnder f left → AreInForce f before
+    → AllByRecursion IsWhole left → Grown before (before ++ part_items t left) (part t (messages_in left))
+items_grow f before t [] under are whole = grown_same (grown_none before) (sym (append-nil before)) refl
+items_grow f before t (DefinesHere d ∷ left) under are whole =
+    grown_same
+    (grown_then (define_grows before d under.0)
+    (items_grow (in_force_after (Defines d) f) (before ++ Defines d ∷ []) t left under.1 (defined_on f before d are) whole.1))
+    (append_assoc before (Defines d ∷ []) (part_items t left)) refl
+items_grow f before t (DataHere m ∷ left) under are whole =
+    let own = data_changed t m in
+    let u = tally_after t (message_here m) in
     let bytes = content_changed t m.definition.global m.definition.arch m.definition.fields.items m.content in
-    last_data [] 0 items m.local bytes m.definition here
-    ∙ ap (λ (own : Message). messages_of items ++ own ∷ [])
-    (message_again t m.definition m.content (omega (arith, whole.2))
-    ∙ ap (λ (time : Option ℕ). changed t (message_under m.definition time m.content)) (sym whole.1))
+    by_stays (stays t (message_here m)) before t u own left (changed t (message_here m)) (messages_in left)
+    (grown_same
+    (grown_then (stays_grows before t m (are m.local m.definition under.1) under.0 whole.0)
+    (items_grow f (before ++ own ∷ []) u left under.2 (data_on f before m.local bytes are) whole.1))
+    (append_assoc before (own ∷ []) (part_items u left)) refl)
+    (items_grow f before t left under.2 are whole.1)
 
--- a data message, which stays or not
-data_goes_on : (before : List Item) (first now : Tally) (all : List Message) (items : List Item) (m : LentData) (left : List LentItem) (b : Bool)
-    → JoinedSoFar before first now all items (DataHere m ∷ left)
-    → messages_of items
-    ++ (if b then changed now (message_here m) ∷ part (tally_after now (message_here m)) (messages_in left) else part now (messages_in left))
-    ≡ messages_of before ++ part first all
-    → (if b then tally_past (tally_after now (message_here m)) (messages_in left) else tally_past now (messages_in left)) ≡ tally_past first all
-    → JoinedSoFar before first (if b then tally_after now (message_here m) else now) all
-    (items ++ (if b then data_changed now m ∷ [] else [])) left
-data_goes_on before first now all items m left false s messages tally =
-    let under = s.under in
-    let whole = s.whole in
-    record {
-      definition_for = s.definition_for;
-      under = under.2;
-      in_force_too = λ l d is. ap (λ (row : List Item). in_force row l) (append-nil items) ∙ s.in_force_too l d is;
-      whole = whole.1;
-      messages = ap (λ (row : List Item). messages_of row ++ part now (messages_in left)) (append-nil items) ∙ messages;
-      tally = tally;
-      written_out = λ plain. subst (AllByRecursion IsPlain) (sym (append-nil items)) (s.written_out plain);
-    }
-data_goes_on before first now all items m left true s messages tally =
-    let under = s.under in
-    let whole = s.whole in
-    let own = changed now (message_here m) in
-    let rest = part (tally_after now (message_here m)) (messages_in left) in
-    let bytes = content_changed now m.definition.global m.definition.arch m.definition.fields.items m.content in
-    record {
-      definition_for = s.definition_for;
-      under = under.2;
-      in_force_too = data_on s.definition_for items m.local bytes s.in_force_too;
-      whole = whole.1;
-      messages = ap (λ (ms : List Message). ms ++ rest) (message_stated now items m (s.in_force_too m.local m.definition under.1) whole.0)
-          ∙ append_assoc (messages_of items) (own ∷ []) rest
-          ∙ messages;
-      tally = tally;
-      written_out = λ plain. all_and_last items (data_changed now m) (s.written_out plain) refl;
-    }
+part_grows : (before : List Item) (t : Tally) (v : FileValue) → CanBeFile v → AllByRecursion IsPlain v.items
+    → Grown before (before ++ part_items t (items_lent v.items)) (part t (messages_of v.items))
+part_grows before t v can plain =
+    grown_same
+    (items_grow (in_force []) before t (items_lent v.items) (lent_under [] 0 v.items can.items_follow) (λ l d is. absurd (none-some d is))
+    (lent_whole [] 0 v.items can.items_follow plain))
+    refl (ap (part t) (lent_messages [] 0 v.items))
 
-pub goes_on : (before : List Item) (first now : Tally) (all : List Message) (items : List Item) (item : LentItem) (left : List LentItem)
-    → JoinedSoFar before first now all items (item ∷ left)
-    → JoinedSoFar before first (counted now item) all (items ++ item_added now item) left
-goes_on before first now all items (DefinesHere d) left s =
-    let under = s.under in
-    let whole = s.whole in
-    record {
-      definition_for = in_force_after (Defines d) s.definition_for;
-      under = under.1;
-      in_force_too = defined_on s.definition_for items d s.in_force_too;
-      whole = whole.1;
-      messages = ap (λ (ms : List Message). ms ++ part now (messages_in left)) (last_definition [] 0 items d) ∙ s.messages;
-      tally = s.tally;
-      written_out = λ plain. all_and_last items (Defines d) (s.written_out plain) tt;
-    }
-goes_on before first now all items (DataHere m) left s =
-    data_goes_on before first now all items m left (stays now (message_here m)) s s.messages s.tally
+-- ---- all parts
+
+one_grows : (before : List Item) (t : Tally) (followed : Bool) (v : FileValue) → CanBeFile v → AllByRecursion IsPlain v.items
+    → Grown before (before ++ one_items t followed v.items) (joined_one t followed (messages_of v.items))
+one_grows before t followed v can plain =
+    let span = span_of t.keeps_laps (messages_of v.items) in
+    let start = event_items (start_due t.follows span) 0 in
+    let own = part_items t (items_lent v.items) in
+    let stop = event_items (stop_due followed span) 4 in
+    grown_same
+    (grown_then (event_grows before (start_due t.follows span) 0)
+    (grown_then (part_grows (before ++ start) t v can plain) (event_grows ((before ++ start) ++ own) (stop_due followed span) 4)))
+    (append_assoc (before ++ start) own stop ∙ append_assoc before start (own ++ stop)) refl
+
+all_grow : (before : List Item) (t : Tally) (parts : List Part) → AllByRecursion (λ p. CanBeFile p.file) parts
+    → AllByRecursion (λ p. AllByRecursion IsPlain p.file.items) parts
+    → Grown before (before ++ items_after t parts) (joined_after t (map (λ p. messages_of p.file.items) parts))
+all_grow before t [] can plain = grown_same (grown_none before) (sym (append-nil before)) refl
+all_grow before t (p ∷ parts) can plain =
+    let followed = is_followed (map (λ q. messages_of q.file.items) parts) in
+    let own = one_items t followed p.file.items in
+    let next = next_tally (tally_past t (messages_of p.file.items)) in
+    grown_same
+    (grown_then (one_grows before t followed p.file can.0 plain.0) (all_grow (before ++ own) next parts can.1 plain.1))
+    (append_assoc before own (items_after next parts)) refl
+
+joined_grows : (parts : List Part) → AllByRecursion (λ p. CanBeFile p.file) parts
+    → AllByRecursion (λ p. AllByRecursion IsPlain p.file.items) parts
+    → Grown [] (joined_items parts) (joined_messages (map (λ p. messages_of p.file.items) parts))
+joined_grows parts can plain = all_grow [] (first_tally (laps_stay (map (λ p. messages_of p.file.items) parts))) parts can plain
+
+-- of the joined file
+
+pub joined_is_file : (first : Part) (others : List Part) → IsFrame first.file.frame → AllByRecursion (λ p. CanBeFile p.file) (first ∷ others)
+    → AllByRecursion (λ p. AllByRecursion IsPlain p.file.items) (first ∷ others) → FileOf (encoded (joined_file first others)) (joined_file first others)
+joined_is_file first others frame can plain =
+    stand_file (joined_file first others) frame ((joined_grows (first ∷ others) can plain).stand tt)
+
+pub joined_states : (first : Part) (others : List Part) → AllByRecursion (λ p. CanBeFile p.file) (first ∷ others)
+    → AllByRecursion (λ p. AllByRecursion IsPlain p.file.items) (first ∷ others)
+    → messages_of (joined_file first others).items ≡ joined_messages (messages_of first.file.items ∷ map (λ p. messages_of p.file.items) others)
+joined_states first others can plain = (joined_grows (first ∷ others) can plain).messages
+
+pub joined_is_plain : (first : Part) (others : List Part) → AllByRecursion (λ p. CanBeFile p.file) (first ∷ others)
+    → AllByRecursion (λ p. AllByRecursion IsPlain p.file.items) (first ∷ others) → AllByRecursion IsPlain (joined_file first others).items
+joined_is_plain first others can plain = (joined_grows (first ∷ others) can plain).plain tt

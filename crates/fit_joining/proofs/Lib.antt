@@ -1,6 +1,9 @@
--- Lemmas on the values in bytes that change, on a message whose content changes, on the items of a part, on events of the timer, and on laps.
+-- Lemmas on the values in bytes that change, on a message whose content changes, on the events of the timer, on a text that is written piece by
+-- piece, on the items of a part and of the joined file, and on laps.
 mod ChangedValues
 mod ChangedMessage
+mod EventMessage
+mod Leaves
+mod WrittenRow
 mod JoinedRow
-mod TimerEvents
 mod MadeLaps

@@ -1,6 +1,9 @@
 pub mod Part
 pub mod Timer
 pub mod Joined
+pub mod Content
+pub mod Events
+pub mod JoinedItems
 pub mod Compared
 pub mod Order
 pub mod Private

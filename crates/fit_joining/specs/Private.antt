@@ -1,3 +1,1 @@
-pub mod Content
-pub mod Events
 pub mod Row

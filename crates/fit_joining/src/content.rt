@@ -1,86 +1,109 @@
 // The content of a message, its fields changed.
 
-ghost use Rattle.std.specs.Prelude.{◌≡◌, ◌≤◌, ◌++◌, length, sum_by, OnOk};
+ghost use Rattle.std.specs.Prelude.{◌≡◌, ◌≤◌, length};
 ghost use Rattle.fit_grammar.specs.Format.Item.{fields_size};
 ghost use Rattle.fit_grammar.specs.Format.Encoding.{two_bytes};
+ghost use Rattle.fit_grammar.specs.Calls.CheckedOutput.{WritesChecked};
 ghost use Rattle.fit_grammar.specs.Calls.PlainForm.{time_bytes};
 ghost use Rattle.fit_joining.specs.Part.{is_distance, is_lap_number};
-ghost use Rattle.fit_joining.specs.Private.Content.{field_changed, content_changed, distance_changed, lap_changed};
+ghost use Rattle.fit_joining.specs.Content.{field_changed, content_changed, distance_changed, lap_changed};
 
 use crate::tally::Tally;
-use fit_base::{Arch, number_of};
-use fit_grammar::{DefinitionMessage, FieldDefinition};
-use std::alloc::AllocError;
+use fit_base::{Arch, Crc, number_of};
+use fit_grammar::{Definition, FieldDefinition, Sink, put_checked};
 
-// Adds the content of a message under its definition: a distance goes on, and a lap has its number in turn.
-pub(crate) fn put_content(
+// Writes the content of a message under its definition: a distance goes on, and a lap has its number in turn.
+pub(crate) fn put_content<S: Sink>(
     tally: Tally,
-    definition: &DefinitionMessage<'_>,
+    definition: &Definition,
     content: &[u8],
-    out: &mut Vec<u8>,
-) -> Result<(), AllocError>
+    out: &mut S,
+    checksum: &mut Crc,
+) -> Result<(), S::Fault>
     requires { fields_size definition.now ≤ length content.now }
-    ensures { OnOk result (out.new.items ≡ out.old.items ++ content_changed tally definition.now.global
-        definition.now.arch definition.now.fields.items content.now) }
+    ensures { WritesChecked (S.held out.old)
+        (S.held out.new) checksum.old checksum.new result
+        (content_changed tally definition.now.global definition.now.arch
+        definition.now.fields.items content.now) }
 {
-    let definition = definition.read();
     let mut fields: &[FieldDefinition] = &definition.fields;
     let mut rest = content;
     while let [field, others @ ..] = fields {
         let (bytes, after) = rest.split_at(field.size as usize);
-        put_field(tally, definition.global, definition.arch, field, bytes, out)?;
+        put_field(
+            tally,
+            definition.global,
+            definition.arch,
+            field,
+            bytes,
+            out,
+            checksum,
+        )?;
         fields = others;
         rest = after;
     }
-    out.extend_from_slice(rest)
+    put_checked(out, checksum, rest)
 }
 
-// Adds the bytes of a field.
-fn put_field(
+// Writes the bytes of a field.
+fn put_field<S: Sink>(
     tally: Tally,
     message: u16,
     arch: Arch,
     field: &FieldDefinition,
     bytes: &[u8],
-    out: &mut Vec<u8>,
-) -> Result<(), AllocError>
-    ensures { OnOk result (out.new.items
-        ≡ out.old.items ++ field_changed tally message arch field.now bytes.now) }
+    out: &mut S,
+    checksum: &mut Crc,
+) -> Result<(), S::Fault>
+    ensures { WritesChecked (S.held out.old)
+        (S.held out.new) checksum.old checksum.new result
+        (field_changed tally message arch field.now bytes.now) }
 {
     if is_distance(message, field.number, field.base) {
-        return put_distance(tally, arch, bytes, out);
+        return put_distance(tally, arch, bytes, out, checksum);
     }
     if is_lap_number(message, field.number, field.base) {
-        return put_lap_number(tally, arch, bytes, out);
+        return put_lap_number(tally, arch, bytes, out, checksum);
     }
-    out.extend_from_slice(bytes)
+    put_checked(out, checksum, bytes)
 }
 
-// Adds a distance of four bytes, so much further.
-fn put_distance(tally: Tally, arch: Arch, bytes: &[u8], out: &mut Vec<u8>) -> Result<(), AllocError>
-    ensures { OnOk result (out.new.items ≡ out.old.items ++ distance_changed tally arch bytes.now) }
+// Writes a distance of four bytes, so much further.
+fn put_distance<S: Sink>(
+    tally: Tally,
+    arch: Arch,
+    bytes: &[u8],
+    out: &mut S,
+    checksum: &mut Crc,
+) -> Result<(), S::Fault>
+    ensures { WritesChecked (S.held out.old)
+        (S.held out.new) checksum.old checksum.new result
+        (distance_changed tally arch bytes.now) }
 {
     match bytes {
         [a, b, c, d] => {
             let distance = number_of(arch, &[*a, *b, *c, *d]) as u32;
-            out.extend_from_slice(&bytes_of(arch, tally.further(distance)))
+            put_checked(out, checksum, &bytes_of(arch, tally.further(distance)))
         }
-        _ => out.extend_from_slice(bytes),
+        _ => put_checked(out, checksum, bytes),
     }
 }
 
-// Adds the number of a lap in two bytes.
-fn put_lap_number(
+// Writes the number of a lap in two bytes.
+fn put_lap_number<S: Sink>(
     tally: Tally,
     arch: Arch,
     bytes: &[u8],
-    out: &mut Vec<u8>,
-) -> Result<(), AllocError>
-    ensures { OnOk result (out.new.items ≡ out.old.items ++ lap_changed tally arch bytes.now) }
+    out: &mut S,
+    checksum: &mut Crc,
+) -> Result<(), S::Fault>
+    ensures { WritesChecked (S.held out.old)
+        (S.held out.new) checksum.old checksum.new result
+        (lap_changed tally arch bytes.now) }
 {
     match bytes {
-        [_, _] => out.extend_from_slice(&two_bytes_of(arch, tally.laps)),
-        _ => out.extend_from_slice(bytes),
+        [_, _] => put_checked(out, checksum, &two_bytes_of(arch, tally.laps)),
+        _ => put_checked(out, checksum, bytes),
     }
 }
 

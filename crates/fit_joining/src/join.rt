@@ -1,13 +1,22 @@
 // The parts of an activity, joined.
 
-ghost use Rattle.std.specs.Prelude.{◌≡◌, ◌++◌, ◌∷◌, map, OnOk, IfOk};
+ghost use Rattle.std.specs.Prelude.{◌≡◌, ◌≤◌, ◌∷◌, length, map, None, OnOk, IfOk};
 ghost use Rattle.std.specs.List.{AllByRecursion};
+ghost use Rattle.fit_grammar.specs.Format.Encoding.{encoded, encoded_item, encoded_items};
+ghost use Rattle.fit_grammar.specs.Format.File.{FileOf};
+ghost use Rattle.fit_grammar.specs.Format.Item.{Data, fields_size};
 ghost use Rattle.fit_grammar.specs.Format.Message.{messages_of};
-ghost use Rattle.fit_grammar.specs.Calls.LentItem.{lent_item};
+ghost use Rattle.fit_grammar.specs.Format.Records.{data_size};
+ghost use Rattle.fit_grammar.specs.Calls.CheckedOutput.{WritesChecked};
+ghost use Rattle.fit_grammar.specs.Calls.LentItem.{items_lent, lent_item};
+ghost use Rattle.fit_grammar.specs.Calls.Output.{WritesText};
 ghost use Rattle.fit_grammar.specs.Calls.PlainForm.{IsPlain};
-ghost use Rattle.fit_joining.specs.Part.{part as part_of, tally_past};
-ghost use Rattle.fit_joining.specs.Joined.{is_followed as is_followed_by, joined_after, joined_messages, joined_one, next_tally};
-ghost use Rattle.fit_joining.specs.Private.Row.{CanTake, counted, data_lent, item_added};
+ghost use Rattle.fit_grammar.specs.Calls.Possible.{CanBeFile};
+ghost use Rattle.fit_joining.specs.Part.{tally_past};
+ghost use Rattle.fit_joining.specs.Joined.{is_followed as is_followed_by, joined_messages, next_tally};
+ghost use Rattle.fit_joining.specs.Content.{content_changed};
+ghost use Rattle.fit_joining.specs.JoinedItems.{counted, item_joined, joined_file, joined_items, one_items, part_items};
+ghost use Rattle.fit_joining.specs.Private.Row.{IsWhole, data_lent};
 
 use crate::content::put_content;
 use crate::laps::laps_stay;
@@ -15,76 +24,85 @@ use crate::part::Part;
 use crate::span::span_of;
 use crate::tally::Tally;
 use crate::timer::put_event_at;
-use fit_grammar::{DataMessage, File, FileItem, Item, PutFault, message_of};
-use std::alloc::Global;
+use fit_base::Crc;
+use fit_grammar::{
+    DataMessage, Definition, FileItem, Item, LentFile, Sink, message_of, put_checked,
+    put_definition, put_header,
+};
 
-/// Why parts are not joined.
-#[derive(Clone, Copy, Debug, PartialEq, Eq)]
-pub enum JoinFault {
-    /// The records would exceed 4,294,967,295 bytes.
-    TooLong,
-    /// The allocator refused to grow a buffer.
-    Memory,
-}
-
-/// Makes one file of the parts of an activity, which have no compressed timestamps, in their order. It has the frame of the first part.
-pub fn join_files(alloc: Global, first: &Part<'_>, others: &[Part<'_>]) -> Result<File, JoinFault>
+/// Writes the records of the file that `write_joined` writes; at an `Err`, a prefix of them. It takes no memory.
+pub fn write_joined_records<S: Sink>(
+    first: &Part<'_, '_>,
+    others: &[Part<'_, '_>],
+    out: &mut S,
+) -> Result<(), S::Fault>
     requires first { AllByRecursion IsPlain first.now.file.items }
     requires others { AllByRecursion (λ part. AllByRecursion IsPlain part.file.items) others.now }
-    ensures frame { IfOk result (λ joined. joined.frame ≡ first.now.file.frame) }
+    ensures { WritesText (S.held out.old) (S.held out.new) result
+        (encoded_items (joined_file first.now others.now).items) }
+{
+    let mut checksum = Crc::new();
+    put_parts(first, others, out, &mut checksum)
+}
+
+/// Writes one file of the parts of an activity, which have no compressed timestamps, in their order; at an `Err`, a prefix of it. Its
+/// records have `size` bytes. It takes no memory.
+pub fn write_joined<S: Sink>(
+    first: &Part<'_, '_>,
+    others: &[Part<'_, '_>],
+    size: u32,
+    out: &mut S,
+) -> Result<(), S::Fault>
+    requires first { AllByRecursion IsPlain first.now.file.items }
+    requires others { AllByRecursion (λ part. AllByRecursion IsPlain part.file.items) others.now }
+    requires size { size ≡ data_size (joined_file first.now others.now).items }
+    ensures text { WritesText (S.held out.old) (S.held out.new) result
+        (encoded (joined_file first.now others.now)) }
+    // It is a file.
+    ensures file { OnOk result
+        (FileOf (encoded (joined_file first.now others.now)) (joined_file first.now others.now)) }
     // Its messages are those of the parts, in turn.
-    ensures messages { IfOk result (λ joined. messages_of joined.items
+    ensures messages { OnOk result (messages_of (joined_file first.now others.now).items
         ≡ joined_messages (messages_of first.now.file.items
         ∷ map (λ part. messages_of part.file.items) others.now)) }
-    ensures written_out { IfOk result (λ joined. AllByRecursion IsPlain joined.items) }
+    ensures written_out { OnOk result
+        (AllByRecursion IsPlain (joined_file first.now others.now).items) }
 {
-    match joined_by(alloc, Tally::first(laps_stay(first, others)), first, others) {
-        Ok(joined) => Ok(joined),
-        Err(PutFault::TooLong) => Err(JoinFault::TooLong),
-        Err(_) => Err(JoinFault::Memory),
-    }
+    let mut checksum = Crc::new();
+    put_header(out, &mut checksum, first.file.frame(), size)?;
+    put_parts(first, others, out, &mut checksum)?;
+    out.put(&checksum.value().to_le_bytes())?;
+    Ok(())
 }
 
-// The file of these parts, the first of which has this tally.
-fn joined_by(
-    alloc: Global,
-    tally: Tally,
-    first: &Part<'_>,
-    others: &[Part<'_>],
-) -> Result<File, PutFault>
+// Writes the records of these parts.
+fn put_parts<S: Sink>(
+    first: &Part<'_, '_>,
+    others: &[Part<'_, '_>],
+    out: &mut S,
+    checksum: &mut Crc,
+) -> Result<(), S::Fault>
     requires first { AllByRecursion IsPlain first.now.file.items }
     requires others { AllByRecursion (λ part. AllByRecursion IsPlain part.file.items) others.now }
-    ensures frame { IfOk result (λ joined. joined.frame ≡ first.now.file.frame) }
-    ensures messages { IfOk result (λ joined. messages_of joined.items
-        ≡ joined_after tally (messages_of first.now.file.items
-        ∷ map (λ part. messages_of part.file.items) others.now)) }
-    ensures written_out { IfOk result (λ joined. AllByRecursion IsPlain joined.items) }
+    ensures text { WritesChecked (S.held out.old)
+        (S.held out.new) checksum.old checksum.new result
+        (encoded_items (joined_items (first.now ∷ others.now))) }
+    // Holds of every part.
+    ensures possible { OnOk result
+        (AllByRecursion (λ part. CanBeFile part.file) (first.now ∷ others.now)) }
 {
-    let mut joined = File::new(alloc, first.file.frame());
-    let mut content = Vec::new(alloc);
-    let mut now = put_one(
-        tally,
-        &first.file,
-        is_followed(others),
-        &mut joined,
-        &mut content,
-    )?;
+    let tally = Tally::first(laps_stay(first, others));
+    let mut now = put_one(tally, &first.file, is_followed(others), out, checksum)?;
     let mut rest = others;
     while let [part, more @ ..] = rest {
-        now = put_one(
-            now,
-            &part.file,
-            is_followed(more),
-            &mut joined,
-            &mut content,
-        )?;
+        now = put_one(now, &part.file, is_followed(more), out, checksum)?;
         rest = more;
     }
-    Ok(joined)
+    Ok(())
 }
 
 // Whether another part follows.
-fn is_followed(others: &[Part<'_>]) -> bool
+fn is_followed(others: &[Part<'_, '_>]) -> bool
     ensures { result ≡ is_followed_by (map (λ part. messages_of part.file.items) others.now) }
 {
     match others {
@@ -93,99 +111,116 @@ fn is_followed(others: &[Part<'_>]) -> bool
     }
 }
 
-// Adds a part with the timer standing around it, and returns the tally of the next one.
-fn put_one(
+// Writes a part with the timer standing around it, and returns the tally of the next one.
+fn put_one<S: Sink>(
     tally: Tally,
-    part: &File,
+    part: &LentFile<'_>,
     is_followed: bool,
-    joined: &mut File,
-    content: &mut Vec<u8>,
-) -> Result<Tally, PutFault>
+    out: &mut S,
+    checksum: &mut Crc,
+) -> Result<Tally, S::Fault>
     requires { AllByRecursion IsPlain part.now.items }
-    ensures frame { OnOk result (joined.new.frame ≡ joined.old.frame) }
-    ensures messages { OnOk result (messages_of joined.new.items
-        ≡ messages_of joined.old.items
-        ++ joined_one tally is_followed (messages_of part.now.items)) }
+    ensures text { WritesChecked (S.held out.old)
+        (S.held out.new) checksum.old checksum.new result
+        (encoded_items (one_items tally is_followed part.now.items)) }
     ensures tally { IfOk result (λ next. next
         ≡ next_tally (tally_past tally (messages_of part.now.items))) }
-    ensures written_out { OnOk result
-        (AllByRecursion IsPlain joined.old.items → AllByRecursion IsPlain joined.new.items) }
+    ensures possible { CanBeFile part.now }
 {
+    let _frame = part.frame();
     let span = span_of(tally.keeps_laps, part);
-    put_event_at(span.start_due(tally.follows), 0, joined)?;
-    let past = put_part(tally, part, joined, content)?;
-    put_event_at(span.stop_due(is_followed), 4, joined)?;
+    put_event_at(span.start_due(tally.follows), 0, out, checksum)?;
+    let past = put_part(tally, part, out, checksum)?;
+    put_event_at(span.stop_due(is_followed), 4, out, checksum)?;
     Ok(past.next())
 }
 
-// Adds a part, and returns what is counted after it. `content` is room for the bytes of a message.
-fn put_part(
+// Writes what stays of a part, and returns what is counted after it.
+fn put_part<S: Sink>(
     first: Tally,
-    part: &File,
-    joined: &mut File,
-    content: &mut Vec<u8>,
-) -> Result<Tally, PutFault>
+    part: &LentFile<'_>,
+    out: &mut S,
+    checksum: &mut Crc,
+) -> Result<Tally, S::Fault>
     requires { AllByRecursion IsPlain part.now.items }
-    ensures frame { OnOk result (joined.new.frame ≡ joined.old.frame) }
-    ensures messages { OnOk result (messages_of joined.new.items
-        ≡ messages_of joined.old.items ++ part_of first (messages_of part.now.items)) }
+    ensures text { WritesChecked (S.held out.old)
+        (S.held out.new) checksum.old checksum.new result
+        (encoded_items (part_items first (items_lent part.now.items))) }
     ensures tally { IfOk result
         (λ tally. tally ≡ tally_past first (messages_of part.now.items)) }
-    ensures written_out { OnOk result
-        (AllByRecursion IsPlain joined.old.items → AllByRecursion IsPlain joined.new.items) }
 {
     // Each item of a file has its definition.
     let _frame = part.frame();
     let mut tally = first;
     for item in part.items() {
-        tally = put_item(tally, item, joined, content)?;
+        tally = put_item(tally, item, out, checksum)?;
     }
     Ok(tally)
 }
 
-// Adds what stays of an item, and returns what is counted after it.
-fn put_item(
+// Writes what stays of an item, and returns what is counted after it.
+fn put_item<S: Sink>(
     tally: Tally,
     item: FileItem<'_>,
-    joined: &mut File,
-    content: &mut Vec<u8>,
-) -> Result<Tally, PutFault>
-    requires { CanTake joined.old.items (lent_item item) }
-    ensures frame { OnOk result (joined.new.frame ≡ joined.old.frame) }
-    ensures items { OnOk result
-        (joined.new.items ≡ joined.old.items ++ item_added tally (lent_item item.entry)) }
+    out: &mut S,
+    checksum: &mut Crc,
+) -> Result<Tally, S::Fault>
+    requires { IsWhole (lent_item item) }
+    ensures text { WritesChecked (S.held out.old)
+        (S.held out.new) checksum.old checksum.new result
+        (encoded_items (item_joined tally (lent_item item.entry))) }
     ensures tally { IfOk result (λ after. after ≡ counted tally (lent_item item.entry)) }
 {
     match item {
         FileItem::Definition(definition) => {
-            joined.define(&definition.read())?;
+            put_definition(out, checksum, &definition.read())?;
             Ok(tally)
         }
-        FileItem::Data(message, _) => put_data(tally, message, joined, content),
+        FileItem::Data(message, _) => put_data(tally, message, out, checksum),
     }
 }
 
-// Adds a data message if it stays, and returns what is counted after it. It has no compressed timestamp.
-fn put_data(
+// Writes a data message if it stays, and returns what is counted after it. It has no compressed timestamp.
+fn put_data<S: Sink>(
     tally: Tally,
     message: DataMessage<'_>,
-    joined: &mut File,
-    content: &mut Vec<u8>,
-) -> Result<Tally, PutFault>
-    requires { CanTake joined.old.items (data_lent message) }
-    ensures frame { OnOk result (joined.new.frame ≡ joined.old.frame) }
-    ensures items { OnOk result
-        (joined.new.items ≡ joined.old.items ++ item_added tally (data_lent message.entry)) }
+    out: &mut S,
+    checksum: &mut Crc,
+) -> Result<Tally, S::Fault>
+    requires { IsWhole (data_lent message) }
+    ensures text { WritesChecked (S.held out.old)
+        (S.held out.new) checksum.old checksum.new result
+        (encoded_items (item_joined tally (data_lent message.entry))) }
     ensures tally { IfOk result (λ after. after ≡ counted tally (data_lent message.entry)) }
 {
     let local = message.local;
-    content.clear();
-    put_content(tally, &message.definition, message.content, content)?;
+    let content = message.content;
+    let definition = message.definition.read();
     match message_of(&Item::Data(message), 0) {
         Some(stated) if tally.keeps(&stated) => {
-            joined.data(local, None, content.as_slice())?;
+            put_message(tally, local, &definition, content, out, checksum)?;
             Ok(tally.after(&stated))
         }
         _ => Ok(tally),
     }
+}
+
+// Writes a data message of this local number, its content changed.
+fn put_message<S: Sink>(
+    tally: Tally,
+    local: u8,
+    definition: &Definition,
+    content: &[u8],
+    out: &mut S,
+    checksum: &mut Crc,
+) -> Result<(), S::Fault>
+    requires { fields_size definition.now ≤ length content.now }
+    ensures { WritesChecked (S.held out.old)
+        (S.held out.new) checksum.old checksum.new result
+        (encoded_item (Data local None
+        (content_changed tally definition.now.global definition.now.arch
+        definition.now.fields.items content.now))) }
+{
+    put_checked(out, checksum, &[local])?;
+    put_content(tally, definition, content, out, checksum)
 }

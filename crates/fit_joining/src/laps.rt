@@ -5,10 +5,10 @@ ghost use Rattle.fit_grammar.specs.Format.Message.{messages_of};
 ghost use Rattle.fit_joining.specs.Joined.{has_made_lap, laps_stay};
 
 use crate::part::Part;
-use fit_grammar::File;
+use fit_grammar::LentFile;
 
 // Whether laps stay: the rider made one in any part.
-pub(crate) fn laps_stay(first: &Part<'_>, others: &[Part<'_>]) -> bool
+pub(crate) fn laps_stay(first: &Part<'_, '_>, others: &[Part<'_, '_>]) -> bool
     ensures { result ≡ laps_stay (messages_of first.now.file.items
         ∷ map (λ part. messages_of part.file.items) others.now) }
 {
@@ -26,7 +26,7 @@ pub(crate) fn laps_stay(first: &Part<'_>, others: &[Part<'_>]) -> bool
 }
 
 // Whether a part goes on after a lap.
-fn has_made_lap(file: &File) -> bool
+fn has_made_lap(file: &LentFile<'_>) -> bool
     ensures { result ≡ has_made_lap (messages_of file.now.items) }
 {
     let mut has_lap = false;

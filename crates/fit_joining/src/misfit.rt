@@ -27,7 +27,7 @@ pub enum MisfitKind {
 
 /// The first part that has another sport than those before it, or begins before one of them ends. A part without a sport or a time is
 /// compared by what it has.
-pub fn first_misfit<'a>(parts: &[Part<'a>]) -> Option<Misfit<'a>>
+pub fn first_misfit<'n>(parts: &[Part<'n, '_>]) -> Option<Misfit<'n>>
     ensures { result ≡ first_misfit parts.now }
 {
     let mut stated = Stated {
@@ -36,7 +36,7 @@ pub fn first_misfit<'a>(parts: &[Part<'a>]) -> Option<Misfit<'a>>
     };
     let mut rest = parts;
     while let [part, more @ ..] = rest {
-        let sport = first_sport(&part.file.lend());
+        let sport = first_sport(&part.file);
         let span = span_of(true, &part.file);
         if let Some(kind) = stated.misfit(sport, span.first) {
             return Some(Misfit {

@@ -5,7 +5,7 @@ ghost use Rattle.fit_grammar.specs.Format.Message.{messages_of};
 ghost use Rattle.fit_joining.specs.Timer.{entry_time, kind_by, span_after, span_of as span_of_messages, start_due, stop_due, timer_event, timer_kind};
 
 use fit_base::BaseType;
-use fit_grammar::{File, Message};
+use fit_grammar::{LentFile, Message};
 
 // Whether the first event of the timer starts it, and the last one; and the times of the first and the last entry.
 #[derive(Clone, Copy)]
@@ -17,7 +17,7 @@ pub(crate) struct Span {
 }
 
 // The span of a file's entries. Laps count if they stay.
-pub(crate) fn span_of(keeps_laps: bool, file: &File) -> Span
+pub(crate) fn span_of(keeps_laps: bool, file: &LentFile<'_>) -> Span
     ensures { result ≡ span_of_messages keeps_laps (messages_of file.now.items) }
 {
     let mut span = Span {

@@ -8,10 +8,12 @@ use Rattle.fit_finishing.specs.declared.hearing.Hearing.{Hearing}
 use Rattle.fit_finishing.specs.declared.hearing.Hearing.TheVariants.{Before, Riding}
 use Rattle.fit_finishing.specs.Heard.{Heard, nothing_heard}
 use Rattle.fit_finishing.specs.Finished.{has_sample}
+use Rattle.fit_finishing.specs.Private.Effort.{IsEffort}
 
 -- the ride is what was heard, after its start
 pub record IsRide (ride : Ride) (h : Heard) : Type 0 where
   pub totals : AreTotals ride.totals h.list
+  pub effort : IsEffort ride.effort h.list
   pub lap : ride.lap ≡ h.lap
   pub taken : ride.taken + 1 ≡ length h.list
   pub left_out : ride.left_out ≡ h.left_out

@@ -4,7 +4,7 @@ use Rattle.std.specs.Prelude.{OnOk}
 use Rattle.std.specs.Result.{IsErr}
 use Rattle.fit_base.specs.Checksum.{crc_from}
 use Rattle.fit_base.proofs.Register.{crc_from-append}
-use Rattle.fit_grammar.specs.Private.CheckedOutput.{WritesChecked}
+use Rattle.fit_grammar.specs.Calls.CheckedOutput.{WritesChecked}
 use Rattle.fit_grammar.proofs.Encoder.Output.{then_writes, stops_before}
 
 checked_after : {S T E F : Type 0} (o m n : Option (List ℕ)) (before middle after : ℕ) (x : S) (r : Result T E) (a b : List ℕ) →

@@ -14,7 +14,7 @@ use Rattle.fit_grammar.specs.Format.File.{FileValue}
 use Rattle.fit_grammar.specs.Calls.Extended.{with_items}
 use Rattle.fit_grammar.specs.Calls.LentItem.{LentItem, item_lent}
 use Rattle.fit_grammar.specs.Calls.Possible.{AllCanFollow}
-use Rattle.fit_grammar.specs.Private.CheckedOutput.{WritesChecked}
+use Rattle.fit_grammar.specs.Calls.CheckedOutput.{WritesChecked}
 use Rattle.fit_grammar.specs.Private.ItemsWritten.{ItemsWritten}
 use Rattle.fit_grammar.proofs.Encoder.Checked.{then_checked, stops_checked, checked_same}
 use Rattle.fit_grammar.proofs.Encoder.Encoded.{encoded_items-length}

@@ -15,7 +15,7 @@ use Rattle.fit_grammar.specs.declared.plain.writing.WritePlainFault.{WritePlainF
 use Rattle.fit_grammar.specs.declared.plain.writing.WritePlainFault.TheVariants.{TooLong, Write}
 use Rattle.fit_grammar.specs.Calls.PlainWriting.{JudgesFields}
 use Rattle.fit_grammar.specs.Calls.Table.{in_force_after}
-use Rattle.fit_grammar.specs.Private.CheckedOutput.{WritesChecked}
+use Rattle.fit_grammar.specs.Calls.CheckedOutput.{WritesChecked}
 use Rattle.fit_grammar.specs.Private.PlainWritten.{IsWritable, WrittenTo}
 use Rattle.fit_grammar.proofs.Encoder.Checked.{then_checked, stops_checked, checked_same}
 use Rattle.fit_grammar.proofs.Encoder.Output.{writes_none, text_ok}

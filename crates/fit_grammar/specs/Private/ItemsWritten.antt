@@ -4,7 +4,7 @@ use Rattle.std.specs.List.{AllByRecursion}
 use Rattle.fit_grammar.specs.Format.Item.{Item}
 use Rattle.fit_grammar.specs.Format.Encoding.{encoded_items, HasEncoding}
 use Rattle.fit_grammar.specs.Calls.LentItem.{LentItem, item_lent}
-use Rattle.fit_grammar.specs.Private.CheckedOutput.{WritesChecked}
+use Rattle.fit_grammar.specs.Calls.CheckedOutput.{WritesChecked}
 
 -- the items before those that are left were handed over and added to the checksum, and those that are left have an encoding
 pub record ItemsWritten (items : List Item) (old now : Option (List ℕ)) (before after : ℕ)

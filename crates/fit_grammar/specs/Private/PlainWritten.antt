@@ -6,7 +6,7 @@ use Rattle.fit_grammar.specs.Format.Item.{Item}
 use Rattle.fit_grammar.specs.Format.Encoding.{encoded_items}
 use Rattle.fit_grammar.specs.Calls.LentItem.{LentItem, DefinesHere, DataHere, AllUnder}
 use Rattle.fit_grammar.specs.Calls.PlainForm.{plain_after, has_too_many_fields}
-use Rattle.fit_grammar.specs.Private.CheckedOutput.{WritesChecked}
+use Rattle.fit_grammar.specs.Calls.CheckedOutput.{WritesChecked}
 
 -- the local numbers of an item are below 16
 abbrev pub IsWritable : LentItem → Type 0

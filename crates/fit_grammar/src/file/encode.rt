@@ -7,7 +7,7 @@ ghost use Rattle.fit_grammar.specs.Format.File.{IsFrame, FileOf};
 ghost use Rattle.fit_grammar.specs.Calls.Framed.{framed};
 ghost use Rattle.fit_grammar.specs.Format.Encoding.{header_front as header_front_of, encoded_header, encoded};
 ghost use Rattle.fit_grammar.specs.Calls.Output.{WritesText};
-ghost use Rattle.fit_grammar.specs.Private.CheckedOutput.{WritesChecked};
+ghost use Rattle.fit_grammar.specs.Calls.CheckedOutput.{WritesChecked};
 
 use crate::file::{EncodeFault, File, Frame};
 use crate::sink::{Sink, WriteFailed};
@@ -40,8 +40,9 @@ pub fn encode_records<S: Sink>(frame: Frame, records: &[u8], out: &mut S) -> Res
     out.put(&checksum.value().to_le_bytes())
 }
 
-// The header, with its checksum if it has 14 bytes.
-pub(crate) fn put_header<S: Sink>(
+/// Hands over the header of a file over `size` bytes of records, with its checksum if it has 14 bytes, and adds it to the checksum of the
+/// file.
+pub fn put_header<S: Sink>(
     out: &mut S,
     checksum: &mut Crc,
     frame: Frame,
@@ -81,12 +82,8 @@ pub fn header_front(frame: Frame, size: u32) -> [u8; 12]
     ]
 }
 
-// Hands over the bytes, and adds them to the checksum.
-pub(crate) fn put_checked<S: Sink>(
-    out: &mut S,
-    checksum: &mut Crc,
-    bytes: &[u8],
-) -> Result<(), S::Fault>
+/// Hands over the bytes, and adds them to the checksum.
+pub fn put_checked<S: Sink>(out: &mut S, checksum: &mut Crc, bytes: &[u8]) -> Result<(), S::Fault>
     ensures { WritesChecked (S.held out.old)
         (S.held out.new) checksum.old checksum.new result bytes.now }
 {

@@ -9,7 +9,7 @@ ghost use Rattle.fit_grammar.specs.Format.Records.{data_size};
 ghost use Rattle.fit_grammar.specs.Calls.Extended.{with_items};
 ghost use Rattle.fit_grammar.specs.Calls.LentItem.{lent_item, item_lent};
 ghost use Rattle.fit_grammar.specs.Calls.Output.{WritesText};
-ghost use Rattle.fit_grammar.specs.Private.CheckedOutput.{WritesChecked};
+ghost use Rattle.fit_grammar.specs.Calls.CheckedOutput.{WritesChecked};
 
 use crate::file::encode::{put_checked, put_header};
 use crate::file::{File, Frame, LentFile};

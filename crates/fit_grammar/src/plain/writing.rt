@@ -8,7 +8,7 @@ ghost use Rattle.fit_grammar.specs.Calls.LentItem.{lent_item};
 ghost use Rattle.fit_grammar.specs.Calls.Output.{WritesText};
 ghost use Rattle.fit_grammar.specs.Calls.PlainWriting.{JudgesFields};
 ghost use Rattle.fit_grammar.specs.Calls.PlainForm.{plain_of, plain_items, plain_item, plain_data, timed_after, definitions_before, is_timed, time_front};
-ghost use Rattle.fit_grammar.specs.Private.CheckedOutput.{WritesChecked};
+ghost use Rattle.fit_grammar.specs.Calls.CheckedOutput.{WritesChecked};
 ghost use Rattle.fit_grammar.specs.Private.PlainSoFar.{lent_data};
 ghost use Rattle.fit_grammar.specs.Private.PlainWritten.{IsWritable};
 
@@ -137,7 +137,8 @@ fn put_definition_before<S: Sink>(
     Ok(())
 }
 
-pub(crate) fn put_definition<S: Sink>(
+/// Hands over a definition, and adds it to the checksum.
+pub fn put_definition<S: Sink>(
     out: &mut S,
     checksum: &mut Crc,
     definition: &Definition,

@@ -1,16 +1,9 @@
 use Rattle.std.proofs.Common.{◌≡◌, ◌++◌, length, map}
-use Rattle.std.specs.List.{AllByRecursion}
-use Rattle.fit_commands.specs.Reported.{IsFormOfFile}
-use Rattle.fit_commands.specs.JoinedFile.{AreNoParts}
-use Rattle.fit_commands.specs.declared.fault.Fault.{Fault}
+use Rattle.fit_commands.specs.JoinedFile.{part_lent}
 use Rattle.fit_commands.proofs.join.parts_of.Given as goal
 
 abbrev pub invariant-loop-rest : goal.invariant-loop-rest
-invariant-loop-rest g l = record {
-  names : map (λ part. part.name) l.parts.items ++ l.rest ≡ map (λ part. part.name) l.initial.parts.items ++ l.others;
-  forms : AllByRecursion (λ part. IsFormOfFile part.file) l.parts.items;
-  reported : (fault : Fault) → AreNoParts l.rest fault → AreNoParts l.others fault;
-}
+invariant-loop-rest l = l.parts.items ++ map part_lent l.rest ≡ map part_lent l.files
 
 abbrev pub decreases-loop-rest : goal.decreases-loop-rest
-decreases-loop-rest g l = length l.rest
+decreases-loop-rest l = length l.rest

@@ -1,41 +1,48 @@
-use Rattle.std.proofs.Common.{List, ◌++◌, refl, sym, ap, subst, ◌∙◌}
-use Rattle.fit_grammar.specs.Format.Item.{Item}
+use Rattle.std.proofs.Common.{List, ap, subst, ◌∙◌}
+use Rattle.fit_grammar.specs.Format.Encoding.{encoded_items}
 use Rattle.fit_grammar.specs.Format.Message.{messages_of}
-use Rattle.fit_grammar.specs.Calls.LentItem.{LentItem, lent_item, messages_in}
-use Rattle.fit_joining.specs.declared.tally.Tally.{Tally}
-use Rattle.fit_joining.specs.Private.Row.{JoinedSoFar, item_added}
-use Rattle.fit_joining.proofs.JoinedRow.{started, can_take, goes_on}
+use Rattle.fit_grammar.specs.Calls.LentItem.{LentItem, items_lent, lent_item, messages_in}
+use Rattle.fit_joining.specs.Part.{tally_past}
+use Rattle.fit_joining.specs.JoinedItems.{part_items}
+use Rattle.fit_joining.specs.Private.Row.{LeavesPart}
+use Rattle.fit_joining.proofs.WrittenRow.{part_begins, part_goes_on, part_off}
 use Rattle.fit_joining.proofs.join.put_part.Goals as goal
 
 pub loop-item-init : goal.loop-item-init
-loop-item-init c =
-    let v = c.args.part.now in
-    let is = c.into_iter-item-iterator.ensures.into_iter_gives in
-    record {
-      frame = refl;
-      so_far = started v c.args.joined.now.items c.args.first c.into_iter-item-iterator.result c.frame-frame.ensures.possible c.requires
-          (is ∙ c.items-item-items.ensures.items) (rw is c.items-item-items.ensures.under) (ap messages_in is ∙ c.items-item-items.ensures.messages);
-    }
+loop-item-init g c =
+    let all = c.into_iter-item-iterator.ensures.into_iter_gives in
+    part_begins (g.S.Sink.held c.args.out.now) c.args.checksum.now c.args.part.now c.args.first c.into_iter-item-iterator.result
+    c.frame-frame.ensures.possible c.requires (all ∙ c.items-item-items.ensures.items) (ap messages_in all ∙ c.items-item-items.ensures.messages)
 
 pub put_item-requires : goal.put_item-requires
-put_item-requires c =
-    can_take c.args.joined.now.items c.args.first c.loop-item.tally (messages_of c.args.part.now.items) c.loop-item.joined.items
-    (lent_item c.in-Some.item) c.next.new.self
-    (subst (λ (left : List LentItem). JoinedSoFar c.args.joined.now.items c.args.first c.loop-item.tally (messages_of c.args.part.now.items)
-    c.loop-item.joined.items left) c.in-Some.ensures.steps c.loop-item.invariant.so_far)
+put_item-requires g c =
+    let held = g.S.Sink.held in
+    let v = c.args.part.now in
+    let kept = subst (λ (left : List LentItem). LeavesPart (held c.args.out.now) (held c.loop-item.out) c.args.checksum.now c.loop-item.checksum
+    (encoded_items (part_items c.args.first (items_lent v.items))) (tally_past c.args.first (messages_of v.items)) c.loop-item.tally left)
+    c.in-Some.ensures.steps c.loop-item.invariant in
+    let whole = kept.whole in whole.0
 
 pub loop-item-preserved : goal.loop-item-preserved
-loop-item-preserved c =
-    let before = c.args.joined.now.items in
-    let all = messages_of c.args.part.now.items in
-    let t = c.loop-item.tally in
-    let items = c.loop-item.joined.items in
-    let item = lent_item c.in-Some.item in
-    let left = c.next.new.self in
-    let so_far = subst (λ (row : List LentItem). JoinedSoFar before c.args.first t all items row) c.in-Some.ensures.steps c.loop-item.invariant.so_far in
-    record {
-      frame = c.in_ok-tally.ensures.frame ∙ c.loop-item.invariant.frame;
-      so_far = subst (λ (row : List Item). JoinedSoFar before c.args.first c.in_ok-tally.tally all row left) (sym c.in_ok-tally.ensures.items)
-          (subst (λ (now : Tally). JoinedSoFar before c.args.first now all (items ++ item_added t item) left) (sym c.in_ok-tally.ensures.tally)
-          (goes_on before c.args.first t all items item left so_far));
-    }
+loop-item-preserved g c =
+    let held = g.S.Sink.held in
+    let v = c.args.part.now in
+    let text = encoded_items (part_items c.args.first (items_lent v.items)) in
+    let past = tally_past c.args.first (messages_of v.items) in
+    let kept = subst (λ (left : List LentItem). LeavesPart (held c.args.out.now) (held c.loop-item.out) c.args.checksum.now c.loop-item.checksum
+    text past c.loop-item.tally left) c.in-Some.ensures.steps c.loop-item.invariant in
+    part_goes_on (held c.args.out.now) (held c.loop-item.out) (held c.put_item.new.out) c.args.checksum.now c.loop-item.checksum
+    c.put_item.new.checksum text past c.loop-item.tally c.in_ok-tally.tally (lent_item c.in-Some.item) c.next.new.self kept
+    c.in_ok-tally.ensures.text c.in_ok-tally.ensures.tally
+
+pub returns-in_err-tally-clause-text : goal.returns-in_err-tally-clause-text
+returns-in_err-tally-clause-text g c =
+    let held = g.S.Sink.held in
+    let v = c.args.part.now in
+    let text = encoded_items (part_items c.args.first (items_lent v.items)) in
+    let past = tally_past c.args.first (messages_of v.items) in
+    let kept = subst (λ (left : List LentItem). LeavesPart (held c.args.out.now) (held c.loop-item.out) c.args.checksum.now c.loop-item.checksum
+    text past c.loop-item.tally left) c.in-Some.ensures.steps c.loop-item.invariant in
+    part_off (held c.args.out.now) (held c.loop-item.out) (held c.put_item.new.out) c.args.checksum.now c.loop-item.checksum
+    c.put_item.new.checksum c.put_item.new.checksum text past c.loop-item.tally (lent_item c.in-Some.item) c.next.new.self
+    c.from_residual.ensures.0 kept c.in_err-tally.ensures.text

@@ -23,7 +23,7 @@ returns-in-Lap c = λ h is.
     let so_far = c.settle.ensures h is in
     let ride : Ride = record c.settle.new.self { lap = Some c.in-Lap.time } in
     subst (λ e. IsRide ride (followed_by e h)) (sym c.in-Lap.is)
-    (record { totals = so_far.totals; lap = refl; taken = so_far.taken; left_out = so_far.left_out; sampled = so_far.sampled })
+    (record { totals = so_far.totals; effort = so_far.effort; lap = refl; taken = so_far.taken; left_out = so_far.left_out; sampled = so_far.sampled })
 
 pub returns-in_default : goal.returns-in_default
 returns-in_default c = λ h is.

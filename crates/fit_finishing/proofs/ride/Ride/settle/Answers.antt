@@ -9,7 +9,7 @@ add-requires c =
     let is = c.requires.1 in
     let room = c.requires.2 in (
       record h { lap = None },
-      record { totals = is.totals; lap = c.take.ensures.after; taken = is.taken; left_out = is.left_out; sampled = is.sampled },
+      record { totals = is.totals; effort = is.effort; lap = c.take.ensures.after; taken = is.taken; left_out = is.left_out; sampled = is.sampled },
       omega (arith, room),
     )
 
@@ -18,4 +18,4 @@ returns-in-Some c = λ h is.
     let waits : Some c.in-Some.time ≡ h.lap = sym c.in-Some.is ∙ c.take.ensures.value ∙ is.lap in
     subst (λ lap. IsRide c.add.new.self (settled_with lap h)) waits
     (c.add.ensures (record h { lap = None })
-    (record { totals = is.totals; lap = c.take.ensures.after; taken = is.taken; left_out = is.left_out; sampled = is.sampled }))
+    (record { totals = is.totals; effort = is.effort; lap = c.take.ensures.after; taken = is.taken; left_out = is.left_out; sampled = is.sampled }))

@@ -1,0 +1,66 @@
+-- The items of several parts as one activity, and the file of them.
+use Rattle.std.specs.Prelude.{ℕ, Bool, List, [], ◌∷◌, ◌++◌, map, Option, Some, None, if◌then◌else◌}
+use Rattle.fit_grammar.specs.Format.Item.{Item, Defines, Data}
+use Rattle.fit_grammar.specs.Format.File.{FileValue}
+use Rattle.fit_grammar.specs.Format.Message.{messages_of}
+use Rattle.fit_grammar.specs.Calls.LentItem.{LentItem, LentData, DefinesHere, DataHere, items_lent, message_here}
+use Rattle.fit_joining.specs.declared.part.Part.{Part}
+use Rattle.fit_joining.specs.declared.tally.Tally.{Tally}
+use Rattle.fit_joining.specs.Part.{stays, tally_after, tally_past}
+use Rattle.fit_joining.specs.Timer.{span_of, start_due, stop_due}
+use Rattle.fit_joining.specs.Joined.{first_tally, is_followed, laps_stay, next_tally}
+use Rattle.fit_joining.specs.Content.{content_changed}
+use Rattle.fit_joining.specs.Events.{event_definition, event_content}
+
+-- ---- a part
+
+-- a data message, changed
+abbrev pub data_changed : Tally → LentData → Item
+data_changed t m =
+    Data m.local None (content_changed t m.definition.global m.definition.arch m.definition.fields.items m.content)
+
+-- what is written of an item
+abbrev pub item_joined : Tally → LentItem → List Item
+item_joined t (DefinesHere d) = Defines d ∷ []
+item_joined t (DataHere m) = if stays t (message_here m) then data_changed t m ∷ [] else []
+
+-- what is counted after it
+abbrev pub counted : Tally → LentItem → Tally
+counted t (DefinesHere d) = t
+counted t (DataHere m) = if stays t (message_here m) then tally_after t (message_here m) else t
+
+-- every definition, and the data messages that stay, changed
+abbrev pub part_items : Tally → List LentItem → List Item
+part_items t [] = []
+part_items t (item ∷ items) = item_joined t item ++ part_items (counted t item) items
+
+-- ---- all parts
+
+-- an event of the timer, with its definition
+abbrev pub event_items : Option ℕ → ℕ → List Item
+event_items None type = []
+event_items (Some time) type =
+    Defines event_definition ∷ Data 0 None (event_content time type) ∷ []
+
+-- a part, with the timer started before it and stopped after it where it stood between two parts
+abbrev pub one_items : Tally → Bool → List Item → List Item
+one_items t followed own =
+    event_items (start_due t.follows (span_of t.keeps_laps (messages_of own))) 0
+    ++ (part_items t (items_lent own)
+    ++ event_items (stop_due followed (span_of t.keeps_laps (messages_of own))) 4)
+
+-- the items of each part in turn
+abbrev pub items_after : Tally → List Part → List Item
+items_after t [] = []
+items_after t (part ∷ parts) =
+    one_items t (is_followed (map (λ p. messages_of p.file.items) parts)) part.file.items
+    ++ items_after (next_tally (tally_past t (messages_of part.file.items))) parts
+
+abbrev pub joined_items : List Part → List Item
+joined_items parts =
+    items_after (first_tally (laps_stay (map (λ p. messages_of p.file.items) parts))) parts
+
+-- the file of them, with the frame of the first
+abbrev pub joined_file : Part → List Part → FileValue
+joined_file first others =
+    record { frame = first.file.frame; items = joined_items (first ∷ others) }
