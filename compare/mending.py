@@ -19,7 +19,7 @@ from typing import NamedTuple
 
 from tools.checks import Skipped, differs, unless
 from tools.finished import finished
-from tools.fit_files import framed
+from tools.fit_files import framed, image, short
 from tools.holes import CLUSTERS, CONTENTS, KINDS, SIZES, TAIL, hole, items, messages, numbers, older, other_cluster, touches
 from tools.other_makers import rides
 from tools.program import FITREC, as_nobody, bytes_of, for_everyone, run
@@ -441,22 +441,6 @@ def split_refused(given):
                     is_right = (said, left) == ((1, "", "fitrec: TooManyFiles(1001)\n"), 0)
                 yield "%d files" % count, unless(is_right, (said[0], said[2], left), "at most 1000 without --all")
             source.write_bytes(3 * given.small)
-
-
-def short(data):
-    """A file of the same records with a header of 12 bytes."""
-    start = b"\x0c" + data[1:12] + data[14:-2]
-    return start + checksum(start).to_bytes(2, "little")
-
-
-def image(pick, files):
-    """An image of a card that has these files in clusters of 4,096 bytes with noise between them, and their places."""
-    bytes_so_far, places = b"", []
-    for file in files:
-        bytes_so_far += pick.randbytes(4096 * pick.randrange(1, 5))
-        places.append(len(bytes_so_far))
-        bytes_so_far += file + pick.randbytes(-len(file) % 4096)
-    return bytes_so_far + pick.randbytes(4096), places
 
 
 def split_images(given):

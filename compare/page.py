@@ -21,15 +21,16 @@ from columns import refusal_of, rows_of
 from shifting import start_of
 from tools import reader, release
 from tools.checks import differs, unless
-from tools.fit_files import damaged, made
+from tools.fit_files import damaged, image, made, short
 from tools.libraries import build
 from tools.library_calls import of_files, of_finished, of_mended, of_recordings, of_shifted, of_shown_and_checked
 from tools.needs import missing
 from tools.page_app import of_a_long_ride, of_an_app
+from tools.page_cards import of_cards, of_long_cards
 from tools.page_clocks import of_clocks, of_other_clocks
 from tools.page_files import of_choosing, of_inputs, of_lists
 from tools.page_forms import of_archives, of_exports
-from tools.page_holes import of_chains, of_holes, of_no_messages
+from tools.page_holes import of_chains, of_ends_and_pauses, of_holes, of_no_messages
 from tools.page_layout import of_layout, of_many_laps
 from tools.page_people import of_choices, of_kept_choices, of_people
 from tools.page_rides import of_looking, of_numbers
@@ -41,14 +42,16 @@ from tools.visits import PAGE, Browser
 
 NEEDS = ("fitrec", "rt", "node", "wasm-opt", "esbuild", "tsc", "chromium", "firefox-esr", "WebKitWebDriver", "Xvfb")
 WEB, MODULE = ROOT / "web", ROOT / "compare/module.mjs"
-GROUPS = (of_inputs, of_words, of_choosing, of_lists, of_archives, of_holes, of_no_messages, of_chains, of_numbers, of_values, of_looking,
-          of_exports, of_layout, of_many_laps, of_people, of_choices, of_kept_choices, of_clocks, of_other_clocks, of_an_app, of_a_long_ride)
+GROUPS = (of_inputs, of_words, of_choosing, of_lists, of_archives, of_cards, of_long_cards, of_holes, of_no_messages, of_ends_and_pauses,
+          of_chains, of_numbers, of_values, of_looking, of_exports, of_layout, of_many_laps, of_people, of_choices, of_kept_choices,
+          of_clocks, of_other_clocks, of_an_app, of_a_long_ride)
 # The browsers, what drives each, and the groups of visits that it makes. Chromium makes all, and the others those that show whether a browser
 # does what the page asks of it. What WebKit has no way to, such as a narrow window, is left out of its visits.
 BROWSERS = {
     "chromium": (("chromium",), GROUPS),
-    "firefox": (("firefox-esr",), (of_inputs, of_choosing, of_archives, of_looking, of_exports, of_layout, of_choices, of_kept_choices, of_clocks, of_an_app)),
-    "webkit": (("WebKitWebDriver", "Xvfb"), (of_inputs, of_numbers, of_choices, of_clocks))}
+    "firefox": (("firefox-esr",), (of_inputs, of_choosing, of_archives, of_cards, of_long_cards, of_looking, of_exports, of_layout, of_choices,
+                                   of_kept_choices, of_clocks, of_an_app)),
+    "webkit": (("WebKitWebDriver", "Xvfb"), (of_inputs, of_cards, of_numbers, of_choices, of_clocks))}
 # The most bytes of the page.
 MOST = 175_000
 
@@ -97,6 +100,18 @@ def of_calls(fitrec, many, seed):
         hole[900:940] = bytes(40)
         (folder / "hole.fit").write_bytes(hole)
         (folder / "chain.fit").write_bytes(ride + ride + b"\0\1")
+        wrong = ride[:-1] + bytes([ride[-1] ^ 1])
+        card, places = image(pick, [ride, wrong, short(ride)])
+        (folder / "card.img").write_bytes(card)
+        (folder / "card").mkdir()
+        run(fitrec, "split", "--all", folder / "card.img", folder / "card")
+        there = sorted((int(it.stem), it.stat().st_size) for it in (folder / "card").iterdir())
+        # The wrong one is read up to its fault. What follows goes on where a header may begin whose mark is not there yet.
+        of_card = {"files": [{"start": at, "end": at + size} for at, size in there], "read": int(refusal_of(wrong).partition(" at ")[2]),
+                   "next": len(card) - 11}
+        # In a part that ends within the third one, that is where the next part begins.
+        (folder / "part.img").write_bytes(card[:places[2] + 99])
+        of_part = {**of_card, "files": of_card["files"][:1], "next": places[2]}
         run(fitrec, "shift", "--by", "-3600", folder / "ride.fit", folder / "moved.fit")
         moved = (folder / "moved.fit").read_bytes()
         said = run(fitrec, "salvage", "--skip", folder / "hole.fit", folder / "skipped.fit")[1]
@@ -110,13 +125,14 @@ def of_calls(fitrec, many, seed):
                 ("shiftStart", [folder / "ride.fit"], moved.hex()),
                 ("uncommitted", both(torn), 0), ("leaveChanged", both(torn), None), ("salvage", [torn / NAMES[1]], {"kind": "HeaderSize"}),
                 ("skip", [folder / "hole.fit"], skipped), ("skip", [torn / NAMES[1]], {"kind": "HeaderSize"}),
-                ("split", [folder / "chain.fit"], [ride.hex(), ride.hex(), "0001"])]
+                ("split", [folder / "chain.fit"], [ride.hex(), ride.hex(), "0001"]), ("find", [folder / "card.img"], of_card),
+                ("find", [folder / "part.img"], of_part)]
         # Up to its last commit, without what follows: the times, and a speed in its unit.
         more = recorded(fitrec, folder / "more", [*tour(400), *("sample %d power=%d" % (START + 9999 + at, at) for at in range(999))])
         run(fitrec, "save", more, folder / "saved.fit")
         found, speed = rows_of((folder / "saved.fit").read_bytes(), 20), {"fields": [73, 6], "scale": 0.0036, "offset": 1}
         rest += [("committed", both(more), [[[row[253] for row in found], [row.get(73, row.get(6)) * 0.0036 + 1 for row in found]]])]
-        given = {"committed": [[[20, [253, speed]]]], "shift": [-3600], "shiftStart": [start_of(ride) - 3600]}
+        given = {"committed": [[[20, [253, speed]]]], "shift": [-3600], "shiftStart": [start_of(ride) - 3600], "find": [True]}
         asked += [{"name": name, "files": files, "more": given.get(name, [])} for name, files, _ in rest]
         status, out, err = run(ROOT / "compare/calls.mjs", input=json.dumps(asked, default=str))
         yield "called", differs((status, err), (0, ""))

@@ -81,7 +81,7 @@ function ofNoSample({ gaps, details }, journal) {
 
 // A ride of which a few seconds are missing is there.
 function headingOf({ heading, reasons }, { missing }) {
-  const isCut = reasons.some(([key]) => key === 'cutOff'), isThere = missing.length && missing.every(isLittle);
+  const isCut = reasons.some(([key]) => /^cut/.test(key)), isThere = missing.length && missing.every(isLittle);
   return heading === 'mostly' && isThere && !isCut ? 'rescued' : heading;
 }
 

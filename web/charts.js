@@ -4,7 +4,7 @@ import { make, path, placed, svg } from './dom.js';
 import { bareText, clockText, dateOf, distanceText, isDated, isPace, momentText, nameText, numberText, text, unitOf, valueText,
   zoneText } from './formats.js';
 import { niceStep } from './grid.js';
-import { followTrack, pointAt } from './track.js';
+import { followTrack, noteOf, pointAt } from './track.js';
 
 // The marks of the axis of time: their places in hundredths and their texts, at whole minutes or hours of the clock, or at round numbers of
 // samples.
@@ -69,7 +69,7 @@ function chartOf({ name, low, high, average, faults, curve, inMotion, mean }, ma
     make('div', { className: 'axes' }, make('div', { className: 'heights', 'aria-hidden': true }, ...heights), plot,
       make('div', { className: 'zone', 'aria-hidden': true }, ride.isUntimed ? '' : zoneText(ride.time[0])),
       make('div', { className: 'times', 'aria-hidden': true }, ...times)),
-    faults ? make('p', { className: 'note' }, text(faults === 1 ? 'oneFault' : 'faults', { count: faults })) : null);
+    noteOf(faults));
 }
 
 // The time of a sample, or its number where none has a time.

@@ -1,7 +1,7 @@
 // The question when a ride began, and the moving of all its times by the answer.
 
 import { make } from './dom.js';
-import { dateText, EARLIEST, fieldText, isOff, latest, text, timeIn } from './formats.js';
+import { dateText, EARLIEST, fieldText, isOff, isReset, latest, text, timeIn } from './formats.js';
 import { headingText, wordsOf } from './telling.js';
 
 // What the clock said at the start, before anything was moved, and whether that cannot be: then at the end too, since a clock that is set on
@@ -16,7 +16,7 @@ export function clockOf({ heading, seconds = 0, ride }, { of: { start } }) {
 // The question. A clock that began anew says nothing, so its field is empty. `move` takes by how many seconds all times are moved.
 /** @param {{ said: number, isWrong: boolean }} clock @param {Answer} answer @param {(seconds: number) => void} move */
 export function questionOf({ said, isWrong }, { seconds = 0, ride }, move) {
-  const begin = said + seconds, value = begin < timeIn(EARLIEST) ? '' : fieldText(begin), step = value ? 1 : 60, isAsked = isWrong && !seconds;
+  const begin = said + seconds, value = isReset(begin) ? '' : fieldText(begin), step = value ? 1 : 60, isAsked = isWrong && !seconds;
   const field = make('input', { id: 'began', type: 'datetime-local', required: true, min: EARLIEST, max: latest(), step, value });
   const why = isWrong ? make('p', { id: 'beganWhy' }, text('clockWrong', { date: dateText(said) })) : null;
   const answer = make('button', { id: 'moveTimes', className: isAsked ? '' : 'second' }, text('moveTimes'));

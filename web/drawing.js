@@ -53,11 +53,16 @@ function linesOf(parts, grid) {
 }
 
 // The track, with a path for each class of each series that can colour it, and what leads from degrees to its picture. North is up.
-// Longitudes go on beyond 180 degrees; `long` is changed to them.
+// Longitudes go on beyond 180 degrees; `long` is changed to them. No device is at 0 degrees north and east, which are bytes that were never
+// written: such positions are taken out of both.
 /** @param {{ lat: Float64Array, long: Float64Array, series: Series[], breaks: number[] }} ride @returns {Track | null} */
 export function trackOf({ lat, long, series, breaks }) {
-  let last = NaN;
+  let last = NaN, faults = 0;
   for (let i = 0; i < long.length; i++) {
+    if (long[i] === 0 && lat[i] === 0) {
+      faults++;
+      lat[i] = NaN;
+    }
     if (long[i] !== long[i] || lat[i] !== lat[i]) long[i] = NaN;
     else {
       if (Math.abs(long[i] - last) > 180) long[i] -= 360 * Math.round((long[i] - last) / 360);
@@ -83,7 +88,7 @@ export function trackOf({ lat, long, series, breaks }) {
   }
   const first = points[0].i, finish = long.findLastIndex(n => n >= across.from && n <= across.to);
   const paths = [{ name: 'plain', paths: classesOf(points, () => 0, 1) }, ...colours.map(it => colouredBy(points, it))];
-  return { ...frame, count, first, finish, paths, metres: 111194.9 / scale };
+  return { ...frame, count, faults, first, finish, paths, metres: 111194.9 / scale };
 }
 
 function colouredBy(points, { name, values, from, to }) {

@@ -9,8 +9,11 @@
 // Files are given and answered as Uint8Array. What is refused is thrown as a FitError.
 
 // What a call may add to a file; and answers of calls: that a buffer is too small, and that a time would be none.
-export const CLOSING_ROOM = 254, FINISH_ROOM = 287, FRAME_ROOM = 16, NO_ROOM = 20, MORE_PIECES = 25, TOO_FAR = 28;
+export const CLOSING_ROOM = 254, FINISH_ROOM = 300, FRAME_ROOM = 16, NO_ROOM = 20, MORE_PIECES = 25, TOO_FAR = 28;
 const ABSENT = 0xFFFFFFFF, PAGE = 65536;
+
+// Where files are looked for: how often as many bytes as there are may be read in vain, and how many bytes of a header have its mark.
+export const MOST_PASSES = 32, MARKED = 12;
 
 // Why bytes are no FIT file; why a file is no activity; why a ride is not saved, salvaged, moved or finished.
 const FAULTS = { 1: 'Truncated', 2: 'HeaderSize', 3: 'Magic', 4: 'Protocol', 5: 'HeaderCrc', 6: 'UndefinedLocal', 7: 'SplitMessage',
@@ -177,6 +180,23 @@ export async function open(source) {
       return files;
     },
 
+    // The whole files that stand somewhere in bytes, such as the image of a card: from where to where each, and how many bytes were read in vain
+    // of what is none. Where those are `most`, it is refused. Of a part of an image that `goesOn`, `next` is where the part after it begins: with
+    // a file that is not all there, or with what may be a header.
+    async find(bytes, goesOn = false, most = MOST_PASSES * (bytes.length + 1)) {
+      const memory = await fresh(), at = memory.put(bytes), summary = memory.room(28), place = memory.number(), files = [];
+      let next = 0, read = 0;
+      for (let start; (start = markFrom(bytes, next + 8) - 8) >= 0;) {
+        const size = Number(memory.call('fitrec_first_file', at + start, bytes.length - start));
+        const fault = FAULTS[memory.call('fitrec_check', at + start, size, summary, place)];
+        if (goesOn && fault === 'Truncated') return { files, next: start, read };
+        if (!fault) files.push({ start, end: start + size });
+        else if ((read += memory.long(place)) >= most) throw new FitError('TooManyHeaders');
+        next = start + (fault ? 1 : size);
+      }
+      return { files, next: Math.max(next, bytes.length - MARKED + 1), read };
+    },
+
     // The summary of a file, which has to be a finished activity.
     async check(file) {
       const memory = await fresh(), at = memory.put(file), summary = memory.room(28), place = memory.number();
@@ -223,6 +243,12 @@ export async function open(source) {
     },
   };
   return fitrec;
+}
+
+// Where the mark of a header, ".FIT", stands from a place on; -1 if nowhere.
+function markFrom(bytes, at) {
+  while ((at = bytes.indexOf(0x2E, at)) >= 0 && !(bytes[at + 1] === 0x46 && bytes[at + 2] === 0x49 && bytes[at + 3] === 0x54)) at++;
+  return at;
 }
 
 const uncommittedAt = (memory, ...given) => Number(memory.call('fitrec_uncommitted', ...given));

@@ -97,9 +97,11 @@ export const fieldText = t => `${dayText(t)}T${[dateOf(t).getHours(), dateOf(t).
 /** @type {(value: string) => number} */
 export const timeIn = value => new Date(value).getTime() / 1000 - EPOCH;
 
-// Whether a clock that says this is wrong.
+// Whether a clock that says this began anew: many do so on the first of January of an early year; and whether it is wrong.
 /** @type {(t: number) => boolean} */
-export const isOff = t => !(t >= timeIn(EARLIEST) && t <= timeIn(latest()));
+export const isReset = t => t < timeIn(EARLIEST) || /^20(0.|1[01])-01-01/.test(dateOf(t).toISOString());
+/** @type {(t: number) => boolean} */
+export const isOff = t => !(t <= timeIn(latest())) || isReset(t);
 
 // A mark of the axis: the hour and minute, and seconds where the steps need them.
 /** @param {number} t @param {number} begin @param {number} step */

@@ -8,8 +8,8 @@ interface Float64Array { findLastIndex(holds: (n: number) => boolean): number }
 
 declare class DecompressionStream { constructor(format: string); readable: ReadableStream<Uint8Array>; writable: WritableStream<any> }
 
-// A file that was chosen, or came out of an archive.
-interface Chosen { file: File, folder: string, isArchive?: boolean }
+// A file that was chosen, or came out of an archive or, as a part, out of an image; or one of those that is refused by its name.
+interface Chosen { file: File, folder: string, isArchive?: boolean, isPart?: boolean }
 
 // The files of a ride; and what was made of it last, by which offers, and by how many seconds its times are moved.
 interface Files { data?: Blob, journal?: File, name: string, folder: string, isArchive?: boolean, isPart?: boolean,
@@ -17,7 +17,8 @@ interface Files { data?: Blob, journal?: File, name: string, folder: string, isA
   isDownloaded?: boolean }
 
 // What a worker is given of them.
-interface Given { data?: Uint8Array, journal?: Uint8Array, name?: string, journalName?: string, isPart?: boolean, unread?: number, seconds?: number }
+interface Given { data?: Uint8Array, journal?: Uint8Array, name?: string, journalName?: string, isPart?: boolean, unread?: number, seconds?: number,
+  confirmed?: number }
 
 // A text by its key, and what is filled in.
 type Said = [key: string, values?: Record<string, any>];
@@ -28,8 +29,9 @@ interface Summary { records: number | null, laps: number | null, sessions: numbe
 // A file whose times are moved by so many seconds, if they are, and what is said of that.
 interface Moved { file: Uint8Array, seconds?: number, reasons: any[], details: any[] }
 
-// A place in a new file where something of the old one is left out: how many samples stand before it, if they were counted.
-interface Gap { at: number, size: number, isLast: boolean, before?: number }
+// A place in a new file where something of the old one is left out: how many samples stand before it, if they were counted, and whether a
+// time in the short form follows.
+interface Gap { at: number, size: number, isLast: boolean, isShort?: boolean, before?: number }
 
 // What is said of a ride, its new file or the file that is shown, by how many seconds its times are moved, or the files that are chained in
 // it.
@@ -50,7 +52,8 @@ interface Laps { count: number, isOpen: boolean, start?: Float64Array, timer?: F
 
 // A picture of a track, and what leads from degrees to a place in it.
 interface Frame { width: number, height: number, scale: number, narrow: number, middleX: number, middleY: number }
-interface Track extends Frame { count: number, first: number, finish: number, metres: number, startAt?: number[], finishAt?: number[],
+interface Track extends Frame { count: number, faults: number, first: number, finish: number, metres: number, startAt?: number[],
+  finishAt?: number[],
   paths: { name: string, from?: number, to?: number, paths: string[] }[] }
 
 // What the page shows of a ride.
@@ -58,7 +61,7 @@ interface Drawn { time: Float64Array, lat: Float64Array, long: Float64Array, dis
   track?: Track | null, sport?: number, isUntimed: boolean, missing: (Missing | null)[], added: Partial<Summary>, ascent: number | null,
   sums: Partial<Summary> & { ascent?: number }, pauses: number[][], breaks?: number[] }
 
-interface Missing { from: number | null, to: number | null, ms: number | null, cm: number | null }
+interface Missing { from: number | null, to: number | null, ms: number | null, cm: number | null, isAbout: boolean }
 
 // What a ride adds up to, by its samples and by its sessions.
 interface Facts { of: any, added: Partial<Summary>, sums: Partial<Summary> & { ascent?: number }, ascent?: number | null, laps: number }

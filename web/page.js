@@ -34,8 +34,8 @@ async function take(files) {
   work(true);
   byId('list').hidden = byId('result').hidden = true;
   try {
-    const { rides: found, others } = await ridesOf(await unpacked(await files));
-    for (const ride of found) await keep(ride);
+    const { rides: found, others } = await ridesOf(await unpacked(await files, () => mine === turn));
+    for (const ride of found) if (mine === turn) await keep(ride);
     if (mine !== turn) return;
     const whole = completed(found);
     if (whole) {
@@ -46,6 +46,7 @@ async function take(files) {
     shownOthers = others;
     await (rides.length > 1 ? presentAll(mine) : choose(rides[0] || null));
   } catch (error) {
+    if (mine !== turn) return;
     rides = [];
     current = null;
     present(failure([error instanceof RangeError ? 'tooLarge' : 'unread']));
@@ -75,22 +76,20 @@ async function choose(ride, how = ride && ride.how || [], seconds = ride && ride
 
 // What the list says of a ride, and by which offers it was made, with its times moved by how many seconds.
 function note(ride, how, answer) {
-  const { heading, file, seconds = 0 } = answer;
-  name(ride, answer);
-  Object.assign(ride, { how, seconds, heading, file, words: wordsOf(answer.ride), facts: factsIn(answer), isTaken: false, isDownloaded: false });
+  const { heading, file, seconds = 0 } = answer, facts = factsIn(answer);
+  name(ride, answer, facts.of.start);
+  Object.assign(ride, { how, seconds, heading, file, words: wordsOf(answer.ride), facts, isTaken: false, isDownloaded: false });
 }
 
 // The name of a new file: by the day on which the activity began, where the browser is.
-function name(ride, answer) {
-  const start = startOf(answer), original = ride.name.replace(/\.[^.]*$/, ''), isDay = isDated(start);
+function name(ride, answer, start) {
+  const original = ride.name.replace(/\.[^.]*$/, ''), isDay = isDated(start);
   const base = isDay ? `${dayText(start)}-${wordsOf(answer.ride)}` : answer.file ? original + '-rescued' : original;
   const taken = rides.filter(it => it !== ride && it.file).map(it => it.saved);
   ride.saved = base + '.fit';
   for (let count = 2; answer.file && taken.includes(ride.saved); count++) ride.saved = `${base}-${count}.fit`;
   answer.name = ride.saved;
 }
-
-const startOf = ({ summary, ride }) => summary && summary.start !== null ? summary.start : ride && ride.added.start;
 
 // ---- several rides
 
@@ -152,19 +151,22 @@ function rowOf(ride) {
 
 function present(answer, how = [], isAgain = false) {
   const { reasons, details, next, offers, file, ride } = answer, sentence = ([key, values]) => text(key, values), facts = factsIn(answer);
+  const clock = clockOf(answer, facts), isOff = clock && clock.isWrong && !answer.seconds, isWhole = answer.heading === 'whole';
   shownAnswer = { answer, how };
-  byId('heading').textContent = headingText(answer.heading, wordsOf(ride));
+  byId('heading').textContent = headingText(isOff && isWhole ? 'wholeOff' : answer.heading, wordsOf(ride));
   const which = rides.length > 1 && current ? make('p', {}, make('strong', {}, current.folder + current.name)) : '';
   const untimed = ride && ride.isUntimed ? [['untimed']] : [];
-  const [lead, ...more] = told([...reasons, ...untimed], ride).map(sentence);
+  const [lead, ...more] = told([...reasons.filter(([key]) => !isOff || key !== 'wholeWhy'), ...untimed], ride).map(sentence);
   byId('reason').replaceChildren(which, make('p', { className: 'lead' }, lead || ''), make('p', { className: 'more' }, more.join(' ')));
   byId('next').replaceChildren(...next.map(it => make('p', {}, sentence(it))));
   byId('offers').replaceChildren(...offers.filter(it => it !== 'bare').map(it => offerOf(it, how)));
   byId('rarely').replaceChildren(...offers.filter(it => it === 'bare').map(it => offerOf(it, how)));
   byId('details').replaceChildren(...details.map(it => make('li', {}, sentence(it))));
   byId('repairer').hidden = !details.length;
-  byId('numbers').replaceChildren(...(ride ? Object.entries(numbersOf(facts)).map(pair) : []));
-  showClock(answer, facts, how);
+  const numbers = ride ? numbersOf(facts) : {};
+  if (isOff) numbers.start.shown = text('unknown');
+  byId('numbers').replaceChildren(...Object.entries(numbers).map(pair));
+  showClock(answer, clock, how);
   byId('where').textContent = file && answer.isWhole ? text('where') : '';
   byId('where').hidden = !byId('where').textContent;
   offer(answer, current);
@@ -174,8 +176,8 @@ function present(answer, how = [], isAgain = false) {
 }
 
 // When it began is asked first where its clock was wrong, and else in a fold.
-function showClock(answer, facts, how) {
-  const clock = clockOf(answer, facts), ride = current, isAsked = clock && clock.isWrong;
+function showClock(answer, clock, how) {
+  const ride = current, isAsked = clock && clock.isWrong;
   const forms = clock ? [questionOf(clock, answer, seconds => choose(ride, how, seconds))] : [];
   byId('asked').replaceChildren(...isAsked ? forms : []);
   byId('mayAsk').replaceChildren(...isAsked ? [] : forms);

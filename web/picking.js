@@ -37,17 +37,21 @@ async function walkEntry(entry, folder, found) {
 // A file with its kind: 'fit', 'journal' or 'other'. `isOpen` is of a recording that was not closed. What a Mac leaves beside each file of
 // a card has the same name after two characters.
 /** @param {Chosen} chosen */
-async function known({ file, folder, isArchive }) {
-  const byName = /^\._/.test(file.name) ? 'other' : /\.frj$/i.test(file.name) ? 'journal' : /\.fit$/i.test(file.name) ? 'fit' : 'other';
-  let head = new Uint8Array(0);
-  try {
-    head = new Uint8Array(await file.slice(0, 12).arrayBuffer());
-  } catch {
-    // It is read again with its ride, and reported there.
-  }
-  const text = String.fromCharCode(...head), kind = text.slice(8, 12) === '.FIT' ? 'fit' : /^FRJ/.test(text) ? 'journal' : byName;
-  return { file, folder, isArchive, kind, base: file.name.replace(/\.[^.]*$/, '').toLowerCase(), isOpen: text.slice(4, 8) === '\0\0\0\0' };
+async function known(chosen) {
+  const { name } = chosen.file, head = await headOf(chosen.file);
+  const byName = /^\._/.test(name) ? 'other' : /\.frj$/i.test(name) ? 'journal' : /\.fit$/i.test(name) ? 'fit' : 'other';
+  return { ...chosen, kind: kindOf(head) || byName, base: name.replace(/\.[^.]*$/, '').toLowerCase(), isOpen: head.slice(4, 8) === '\0\0\0\0' };
 }
+
+// The first bytes of a file, as letters. One that cannot be read is read again with its ride, and reported there.
+/** @param {Blob} file */
+export async function headOf(file) {
+  return String.fromCharCode(...new Uint8Array(await file.slice(0, 12).arrayBuffer().catch(() => new ArrayBuffer(0))));
+}
+
+// What a file with these first bytes is, if it is a part of a recording.
+/** @type {(head: string) => string} */
+export const kindOf = head => head.slice(8) === '.FIT' ? 'fit' : /^FRJ/.test(head) ? 'journal' : '';
 
 // The rides of some files, in the order of folders and names, each with `data` and `journal` or one of them, and how many files are none.
 /** @param {Chosen[]} files @returns {Promise<{ rides: Files[], others: number }>} */
@@ -74,8 +78,8 @@ export async function ridesOf(files) {
 }
 
 function rideFrom(data, journal) {
-  const { file, folder, isArchive } = data || journal;
-  return { data: data && data.file, journal: journal && journal.file, name: file.name, folder, isArchive };
+  const { file, folder, isArchive, isPart } = data || journal;
+  return { data: data && data.file, journal: journal && journal.file, name: file.name, folder, isArchive, isPart };
 }
 
 // The rides of files that are chained in one.
@@ -99,8 +103,8 @@ export async function keptOf(file) {
 
 // Reads the files of a ride. One that cannot be read is tried again, and reported, when the ride is asked for.
 /** @param {Files} ride */
-export async function keep({ data, journal }) {
-  for (const file of [data, journal]) if (file) await keptOf(file).catch(() => {});
+export async function keep({ data, journal, isArchive }) {
+  for (const file of [data, journal]) if (file && !isArchive) await keptOf(file).catch(() => {});
 }
 
 // The bytes of a file up to the first that cannot be read, and that place, if there is one after the first byte.

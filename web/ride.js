@@ -5,8 +5,8 @@ import { extremesOf, plausible, sampleAt } from './ranges.js';
 
 export const TIME = 253, SPORT = 12, SESSION = 18, LAP = 19, RECORD = 20, EVENT = 21, SEMICIRCLE = 180 / 2 ** 31;
 // A sample with most of the fields has some more bytes. No distance leaps so far, in centimetres. A value counts for so many seconds at most.
-// The sport of a ride stands in so many bytes.
-export const SAMPLE = 20, FAR = 1e7, LONGEST = 60, FRONT = 4096;
+// The sport of a ride stands in so many bytes. Times in the short form begin anew after so many milliseconds.
+export const SAMPLE = 20, FAR = 1e7, LONGEST = 60, FRONT = 4096, ROUND = 32000, MINUTE = 60000;
 
 // A field of each series, and one that counts where the first is missing; and those that state its maximum and its average in a session. In
 // its unit a value is raw * scale + offset. No device measures what is below `from` or above `to`: a heart has a beat, and 0 is the altitude
@@ -47,7 +47,7 @@ async function sportOf(fitrec, data) {
 // degrees, distances centimetres. Samples none of which has a time are in their order, as if one came each second.
 /** @param {{ tables: Float64Array[][], sport?: number }} read @param {{ gaps: Gap[], isOurs?: boolean }} about @returns {Drawn} */
 export function rideOf({ tables: [records, events, found, [start, elapsed, timer, length, , climbed, ...stated]], sport }, { gaps, isOurs }) {
-  const isUntimed = records[0].length > 0 && records[0].every(n => n !== n), missing = isUntimed ? [] : gaps.map(it => spanOf(it, records));
+  const isUntimed = records[0].length > 0 && records[0].every(n => n !== n);
   if (isUntimed) records[0].forEach((_, i) => { records[0][i] = i; });
   const [time, lat, long, distance, ...values] = inTime(records), pauses = isUntimed ? [] : pausesOf(...events);
   const resumed = pauses.map(([, to]) => sampleAt(time, to)), usual = plausible(distance, extremesOf(distance), FAR);
@@ -55,6 +55,8 @@ export function rideOf({ tables: [records, events, found, [start, elapsed, timer
   const laps = isUntimed ? [] : lapsOf(found, { time, distance, pauses }), breaks = breaksOf(time, time, resumed);
   const clock = clockOf(time, pauses);
   const ends = new Uint8Array(time.length + 1), shared = { time, clock, ends, breaks, resumed, weights: weightsOf(clock, time) };
+  const pace = gaps.length ? shared.weights.slice().sort()[time.length >> 1] : 0;
+  const missing = isUntimed ? [] : gaps.map(it => spanOf(it, records, pauses, pace));
   for (const i of columnsOf(time)) ends[i] = 1;
   for (const { first, last } of laps) ends[first] = ends[last] = 1;
   const means = stated.slice(SERIES.length), isOne = start.length === 1 && !isOurs;
@@ -65,17 +67,22 @@ export function rideOf({ tables: [records, events, found, [start, elapsed, timer
   return { ...ride, laps: lapColumns(laps, series), ...totals, sums, sport, isUntimed, missing };
 }
 
-// From when to when samples are missing between those that stand before a place and after it, and how far that is.
-/** @param {Gap} gap @param {Float64Array[]} records @returns {Missing | null} */
-function spanOf({ before, isLast }, [time, , , distance]) {
+// From when to when samples are missing between those that stand before a place and after it, and how far that is. A pause that is kept is
+// not missing. After a time in the short form all may be too early: then the bytes that are left out tell about how long it was, by
+// the usual seconds of a sample.
+/** @param {Gap} gap @param {Float64Array[]} records @param {number[][]} pauses @param {number} pace @returns {Missing | null} */
+function spanOf({ before, at, size, isLast, isShort }, [time, , , distance], pauses, pace) {
   if (before === undefined) return null;
   const known = (values, first, step) => {
     for (let i = first; i >= 0 && i < values.length; i += step) if (values[i] === values[i]) return values[i];
     return null;
   };
-  const from = known(time, before - 1, -1), to = isLast ? null : known(time, before, 1);
+  let from = known(time, before - 1, -1), to = isLast ? null : known(time, before, 1);
   const way = known(distance, before, 1) - known(distance, before - 1, -1), cm = way > 0 && way < FAR ? way : null;
-  return { from, to, ms: from === null || to === null ? null : 1000 * Math.max(0, to - from), cm };
+  for (const [a, b] of pauses) if (from !== null && a >= from && b <= to) a - from > to - b ? to = a : from = b;
+  const ms = from === null || to === null ? null : 1000 * Math.max(0, to - from), about = 1000 * size * before / at * pace;
+  const isAbout = isShort && ms !== null && about > ms + ROUND / 2;
+  return { from, to, ms: isAbout ? Math.max(1, Math.round(about / MINUTE)) * MINUTE : ms, cm, isAbout };
 }
 
 // The columns in the order of their times, without samples whose time is missing or far from all others.

@@ -2,7 +2,7 @@
 
 import { FitError } from './fitrec.mjs';
 import { extremesOf } from './ranges.js';
-import { RECORD, SAMPLE, TIME } from './ride.js';
+import { LAP, RECORD, SAMPLE, TIME } from './ride.js';
 
 // The answer is the best rescue: `heading` and `reasons` for the rider, `details` for whoever repairs the device, the file that was made or
 // the one that is shown, whether it is a whole activity and its summary is ours, and the offers of other rescues.
@@ -24,8 +24,11 @@ function nothing(reasons, next, details = []) {
   return { heading: 'nothing', reasons, details, next: next ? [[next]] : [], offers: [] };
 }
 
-// A new file has a header of so many bytes.
-const HEADER = 14;
+// A new file has a header of so many bytes, and a ride goes on after so many seconds at most.
+const HEADER = 14, MINUTES = 600;
+
+// The gate of a slot of a journal that is open, and the maker that recordings state.
+const OPEN = 0xA5, OURS = 255;
 
 const unreadOf = ({ name, unread }) => unread === undefined ? [] : [['unreadWhy', { name }]];
 const unreadAt = ({ name, unread }) => unread === undefined ? [] : [['unreadFrom', { name, place: unread }], ['unreadFix']];
@@ -67,13 +70,24 @@ async function ofRecording(fitrec, ride) {
     const earlier = error.kind === 'Changed' ? await ofEarlier(fitrec, ride) : null;
     if (earlier) return earlier;
     if (!(error.kind in REFUSED)) throw error;
-    const [why, detail] = REFUSED[error.kind], isUnread = ride.unread !== undefined;
-    const reasons = isUnread ? [] : [[why, { name, journal: journalName }], ['readWhy', { name }]];
-    const answer = await ofFile(fitrec, ride, [], reasons, [[detail]]);
+    const [usual, detail] = REFUSED[error.kind], isUnread = ride.unread !== undefined;
+    const isWrong = journal.length && !/^FRJ/.test(lettersOf(journal));
+    const confirmed = error.kind === 'Damaged' && !isUnread ? confirmedIn(journal) : 0, isShort = confirmed > data.length;
+    const why = isShort ? 'cutPair' : isWrong ? 'journalWhy' : usual, said = { name, journal: journalName, end: isShort };
+    const reasons = isUnread ? [] : [[why, said], ['readWhy', { name }]];
+    const answer = await ofFile(fitrec, isShort ? { ...ride, confirmed } : ride, [], reasons, [[detail]]);
     /** @type {Said[]} */
-    const next = isUnread ? [['unreadNext']] : why === 'pairWhy' ? [['copyNext']] : [];
+    const next = isUnread ? [['unreadNext']] : why === 'unconfirmedWhy' ? [] : [['copyNext']];
     return { ...answer, next: next.length ? next : answer.next };
   }
+}
+
+// How many bytes of a recording its journal confirms: the greatest length of its open slots, after the room for a header.
+function confirmedIn(journal) {
+  const view = new DataView(journal.buffer, journal.byteOffset, journal.length), step = { D: 16, 2: 8 }[lettersOf(journal)[3]] || Infinity;
+  let most = 0;
+  for (let i = 8; i + 5 <= journal.length; i += step) if (journal[i] === OPEN) most = Math.max(most, HEADER + view.getUint32(i + 1, true));
+  return most;
 }
 
 // How far what can be read goes beyond what was confirmed, with its time moved; null if it does not.
@@ -122,8 +136,8 @@ async function ofFile(fitrec, ride, how, before = [], beforeDetails = []) {
     if (kind === 'NotActivity') {
       return { heading: 'otherKind', reasons: [['otherKindWhy']], details: [...details, ['faultNotActivity']], ...own };
     }
-    const parts = kind && !how.length && !journal ? await fitrec.split(data) : [];
-    if (parts.length > 1 && hasHeader(parts[1])) return { parts };
+    const parts = kind && !how.length && !journal ? await partsOf(fitrec, data) : [];
+    if (parts.length > 1) return { parts };
     if (kind) details.push(['fault' + kind, { place }]);
     fault = kind in LACKING ? null : kind;
   }
@@ -134,7 +148,7 @@ async function ofFile(fitrec, ride, how, before = [], beforeDetails = []) {
     const format = formatOf(name, data);
     if (format) return nothing([['otherFormat', { name, format }]]);
     if (isBlank(data)) return nothing([['blankFile', { name }]], journal ? 'emptyNext' : 'emptyAloneNext', details);
-    return nothing([['notFit', { name }]], 'notFitNext', details);
+    return nothing([[/\.img$/i.test(name) ? 'noArchive' : 'notFit', { name }]], 'notFitNext', details);
   }
 }
 
@@ -146,10 +160,19 @@ const FORMATS = { GPX: /\.gpx$|<gpx\b/i, TCX: /\.tcx$|<TrainingCenterDatabase\b/
 
 function formatOf(name, data) {
   const by = shown => Object.keys(FORMATS).find(it => FORMATS[it].test(shown));
-  return by(name) || by(String.fromCharCode(...data.subarray(0, 400)));
+  return by(name) || by(lettersOf(data));
 }
 
-const hasHeader = bytes => String.fromCharCode(...bytes.subarray(8, 12)) === '.FIT';
+// The first bytes as letters.
+const lettersOf = bytes => String.fromCharCode(...bytes.subarray(0, 400)), hasHeader = bytes => lettersOf(bytes).slice(8, 12) === '.FIT';
+
+// The files that are chained in one, or stand behind one that was cut off.
+async function partsOf(fitrec, data) {
+  const chained = await fitrec.split(data);
+  if (chained.length > 1 && hasHeader(chained[1])) return chained;
+  const { files } = await orElse(fitrec.find(data), () => ({ files: [] })), starts = [0, ...files.map(it => it.start).filter(it => it)];
+  return starts.map((start, k) => data.slice(start, starts[k + 1]));
+}
 
 // What an answer is, or something else if it is refused.
 const orElse = (answer, other) => answer.catch(error => { if (error.kind) return other(error); throw error; });
@@ -159,23 +182,31 @@ const judged = (fitrec, file) => orElse(fitrec.check(file).then(summary => ({ su
 // What can be read of a file, also after its faults; all of it if its checksum is right. Laps and totals are added where they are missing.
 /** @returns {Promise<Answer>} */
 async function salvaged(fitrec, ride, { why, details, before, fault, how }) {
-  const { data, journal } = ride, isEnd = how.includes('end'), all = how.includes('all') || isEnd, found = await fitrec.skip(data, all);
+  const { data, journal, confirmed = 0 } = ride, isEnd = how.includes('end'), isAsked = how.includes('all') || isEnd;
+  const first = await fitrec.skip(data, isAsked);
+  // A file that was given more room than it needed is whole.
+  const isMore = first.more && !isBlank(data.subarray(data.length - first.more)), further = isMore ? await fitrec.skip(data, true) : first;
+  const isOwn = isMore && await isGoingOn(fitrec, first.file, further, data.length), all = isOwn || isAsked, found = isOwn ? further : first;
+  const isOther = isMore && further.file.length <= first.file.length;
   const { kept, looked, more } = found, stated = hasHeader(data) ? new DataView(data.buffer, data.byteOffset).getUint32(4, true) : looked;
   // A recording that was not closed has no length and no checksum, so none of its values are in doubt.
   const isOpen = !stated, isAlone = isOpen && !journal;
+  const isRecording = isAlone && (/^activity\.fit$/i.test(ride.name) || (await fitrec.columns(found.file, 0, [1]))[0][0] === OURS);
   /** @type {Said[]} */
-  const next = isAlone ? [['journalBeside']] : [];
-  if (!kept) return { ...nothing([...why, ['noMessage']], 'notFitNext', details), ...(isAlone ? { next } : {}) };
+  const next = isRecording ? [['journalBeside']] : [];
+  if (!kept) return { ...nothing([...why, ['noMessage']], 'notFitNext', details), ...(isRecording ? { next } : {}) };
   // Its times are moved first: by those of a clock that began anew no totals can be told.
   const { file: sound, seconds, ...timed } = await moved(fitrec, found.file, ride.seconds);
   const { summary, kind } = await judged(fitrec, sound), isLacking = kind in LACKING && !how.includes('bare');
   const made = isLacking ? await finished(fitrec, sound, kind) : { file: sound, reasons: [], details: [] };
-  const file = await orElse(fitrec.plain(made.file), () => made.file), gaps = await gapsOf(fitrec, found, data, all), reasons = [...before, ...why];
-  // A file that was given more room than it needed is whole.
-  const isMore = more && !all && !isBlank(data.subarray(data.length - more));
-  const isInside = gaps.some(it => !it.isLast), isWrong = fault === 'FileCrc' && !isOpen, size = Math.max(looked, all ? 0 : stated);
+  const file = await orElse(fitrec.plain(made.file), () => made.file), reasons = [...before, ...why];
+  const size = Math.max(looked, all ? 0 : stated, confirmed);
+  // The length is in doubt where the header is, and where nothing is missing that comes last.
+  const lost = kind && fault !== 'HeaderCrc' ? size - looked : 0;
+  const gaps = await gapsOf(fitrec, found, data, { all, hasLength: !isOpen && hasHeader(data) && kind, lost });
+  const isInside = gaps.some(it => !it.isLast), isWrong = fault === 'FileCrc' && !isOpen;
   const isCut = fault === 'Truncated' && size - kept > TORN || gaps.some(it => it.isLast);
-  const isDamaged = isInside || fault && fault !== 'Truncated' && !(fault === 'TrailingBytes' && isMore) && !isOpen;
+  const isDamaged = isInside || fault && fault !== 'Truncated' && !(fault === 'TrailingBytes' && isMore && !isOwn) && !isOpen;
   if (kind === 'NotActivity') reasons.push(['otherKindWhy']);
   if (isEnd) reasons.push(['endAdded']);
   else if (isAlone) reasons.push(['notClosed', { end: true }]);
@@ -183,23 +214,34 @@ async function salvaged(fitrec, ride, { why, details, before, fault, how }) {
   else if (isCut) reasons.push(['cutOff', { end: true }]);
   if (isDamaged) reasons.push(gaps.length ? ['missingParts', { gaps: true }] : ['allThere']);
   if (isWrong || isInside) reasons.push(['mayBeWrong']);
-  if (isMore) reasons.push(['goesOn']);
+  if (isMore && !isOwn) reasons.push([isOther ? 'goesOnOther' : 'goesOn']);
   const said = [...details, ...keptOf(found), ...(more ? [['salvagedMore', { more }]] : []), ...made.details, ...timed.details];
-  const heading = isEnd || !gaps.length && !isCut ? 'rescued' : kept >= size / 2 ? 'mostly' : 'partly';
+  const heading = isEnd || !gaps.length && !isCut && !confirmed ? 'rescued' : kept >= size / 2 ? 'mostly' : 'partly';
   return { heading: kind === 'NotActivity' ? 'otherKind' : heading, reasons: [...reasons, ...made.reasons, ...timed.reasons],
-    details: said, next, offers: [...(isMore ? ['all'] : []), ...(made.isFinished ? ['bare'] : [])], file, seconds, summary, gaps,
+    details: said, next, file, seconds, summary, gaps,
+    offers: [...(isMore && !isOwn && !isOther ? ['all'] : []), ...(made.isFinished ? ['bare'] : [])],
     isWhole: made.isFinished || !kind, isOurs: made.isFinished && kind !== 'NoActivity' };
+}
+
+// Whether all that follows the end of a file is of its ride: then the length in its header is wrong.
+async function isGoingOn(fitrec, file, { file: further, pieces }, size) {
+  const [time, all] = await Promise.all([file, further].map(async it => (await fitrec.columns(it, RECORD, [TIME], it.length / SAMPLE | 0))[0]));
+  const isRead = pieces.every(({ start, end, kept }) => kept || start < file.length - CHECKSUM || end === size && end - start <= CHECKSUM);
+  const step = all[time.length] - time[time.length - 1];
+  return further.length > file.length && isRead && (all.length === time.length || step >= 0 && step < MINUTES);
 }
 
 // With what it lacks, or why that is not there.
 async function finished(fitrec, file, kind) {
   try {
     const made = await fitrec.finish(file), left = made.leftOut ? [['finishedLeft', { count: made.leftOut }]] : [];
-    const reasons = [[{ NoFileId: 'fileIdAdded', NoActivity: 'endingAdded' }[kind] || 'completed']];
+    const [laps, all] = await Promise.all([file, made.file].map(async it => (await fitrec.columns(it, LAP, [TIME]))[0].length));
+    const what = [[laps === all ? 'lackedTotals' : laps ? 'lackedLast' : 'lackedLaps']];
+    const reasons = [[{ NoFileId: 'fileIdAdded', NoActivity: 'endingAdded' }[kind] || 'completed', { what }]];
     return { file: made.file, isFinished: true, reasons, details: [['finishedWhy', { heard: made.heard }], ...left] };
   } catch (error) {
-    if (!error.kind) throw error;
-    return { file, reasons: error.kind === 'NoSample' ? [['noTotals']] : [], details: [['fault' + error.kind]] };
+    if (error.kind !== 'NoSample') throw error;
+    return { file, reasons: [['noTotals']], details: [['faultNoSample']] };
   }
 }
 
@@ -220,17 +262,22 @@ const isBlank = bytes => (bytes[0] === 0 || bytes[0] === 255) && bytes.every(n =
 // A message that was torn at the end has at most so many bytes, and a checksum so many.
 const TORN = 256, CHECKSUM = 2;
 
-// Where something is left out: for the largest of these places how many samples are kept before it, and whether it is the end of the file.
-// Where all bytes are looked at, what comes last may be of another ride.
-async function gapsOf(fitrec, { file, pieces }, data, all) {
+// Where something is left out: for the end of the file and the largest of these places how many samples are kept before it. So many bytes
+// are `lost` that would follow. Where all bytes are looked at, what comes last may be of another ride, and zeros at the end of what has no
+// length were never written.
+async function gapsOf(fitrec, { file, pieces }, data, { all, hasLength, lost }) {
   /** @type {Gap[]} */
-  const gaps = [];
+  const gaps = [], last = file.length - CHECKSUM;
   let at = HEADER;
   for (const { start, end, kept } of pieces) {
-    const isLast = at === file.length - CHECKSUM, size = end - start;
+    const isLast = at === last, size = end - start;
     if (kept) at += size;
-    else if (isLast ? !all && size > TORN && !isBlank(data.subarray(start, end)) : end > HEADER) gaps.push({ at, isLast, size });
+    else if (isLast ? !all && size > TORN && (hasLength || !isBlank(data.subarray(start, end))) : end > HEADER) {
+      // A time in the short form counts from the one before it.
+      gaps.push({ at, isLast, size: isLast ? Infinity : size, isShort: data[end] > 127 });
+    }
   }
+  if (gaps.length && lost > TORN && !gaps.some(it => it.isLast)) gaps.push({ at: last, isLast: true, size: Infinity });
   for (const gap of [...gaps].sort((a, b) => b.size - a.size).slice(0, PLACES)) {
     const before = await orElse(fitrec.salvage(file.subarray(0, gap.at), true), () => ({ kept: 0 }));
     gap.before = before.kept ? (await fitrec.columns(before.file, RECORD, [TIME], Math.ceil(gap.at / SAMPLE)))[0].length : 0;

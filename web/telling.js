@@ -52,7 +52,8 @@ export function numbersOf({ of, added, sums, ascent, laps }) {
 const LITTLE = 10000, DAY = 86400000;
 
 // What a person wants to know first.
-const FIRST = ['notMoved', 'otherKindWhy', 'otherAfter', 'missingParts', 'littleMissing', 'littleInMore', 'onlyTotals', 'allThere', 'readWhy'];
+const FIRST = ['notMoved', 'otherKindWhy', 'otherAfter', 'missingParts', 'timesEarly', 'littleMissing', 'littleInMore', 'onlyTotals', 'allThere',
+  'cutPair', 'readWhy'];
 
 // What is said of an answer, with the times of its ride: a list of texts, each a key and its values.
 /** @param {Said[]} reasons @param {Drawn} [ride] @returns {Said[]} */
@@ -60,10 +61,10 @@ export function told(reasons, ride) {
   const last = ride && !ride.isUntimed && ride.time.length ? ride.time[ride.time.length - 1] : null;
   const hasTotals = ride && !ride.time.length && (ride.sums.sessions || ride.laps.count);
   const said = reasons.flatMap(([key, values = {}]) => {
-    if (values.end) return [last === null ? [key + 'Untimed'] : [key, { end: { time: last } }]];
+    if (values.end) return [last === null ? [key === 'cutPair' ? 'pairWhy' : key + 'Untimed', values] : [key, { ...values, end: { time: last } }]];
     if (values.gaps) return ride && ride.missing.length && !hasTotals ? missingOf(ride.missing) : [];
-    return key === 'noTotals' && hasTotals ? [['onlyTotals']] : [[key, values]];
-  });
+    return hasTotals && ['noTotals', 'allThere', 'onlyTotals'].includes(key) ? [['onlyTotals']] : [[key, values]];
+  }).filter(([key], k, all) => key !== 'onlyTotals' || all.findIndex(it => it[0] === key) === k);
   const rank = ([key]) => (FIRST.indexOf(key) + 1 || FIRST.length + 1);
   return said.sort((a, b) => rank(a) - rank(b));
 }
@@ -73,12 +74,13 @@ function missingOf(all) {
   if (other) return [['otherAfter', { from: { day: other.to } }], ...(missing.length ? missingOf(missing) : [])];
   if (missing.every(isLittle)) return [missing.length === 1 ? ['littleMissing'] : ['littleInMore', { count: missing.length }]];
   const named = missing.filter(it => !isLittle(it)), more = missing.length - named.length, at = t => ({ time: t });
-  const gaps = named.map(({ from, to, ...length }) => {
+  const gaps = named.map(({ from, to, isAbout, ...length }) => {
     if (from === null) return ['gapBefore', { to: at(to) }];
+    if (isAbout) return ['gapAbout', { from: at(from), length }];
     return to === null ? ['gapAfter', { from: at(from) }] : ['gap', { from: at(from), to: at(to), length }];
   });
   if (more) gaps.push(more === 1 ? ['gapsOne'] : ['gapsMore', { count: more }]);
-  return [['missingParts', { gaps }]];
+  return [['missingParts', { gaps }], ...(named.some(it => it.isAbout) ? [['timesEarly']] : [])];
 }
 
 // Those whose times were not looked up are smaller than the others.

@@ -11,7 +11,7 @@ export function trackPicture(track) {
   const map = make('div', { className: 'map' }, drawn,
     at(track.finishAt, make('span', { className: 'mark finish' + beside(track, 1), title: text('finish') })),
     at(track.startAt, make('span', { className: 'mark begin' + beside(track, -1), title: text('start') })),
-    make('span', { className: 'mark here', hidden: true }), scaleOf(width, metres));
+    make('span', { className: 'mark here', hidden: true }));
   const legend = make('div', { className: 'legend' });
   const colour = name => {
     const { paths: own, from, to } = paths.find(it => it.name === name);
@@ -28,7 +28,14 @@ export function trackPicture(track) {
     make('span', {}, make('i', { className: 'mark finish' }), text('finish')), make('span', {}, text('north')));
   const chooser = paths.length > 1 ? make('label', {}, text('colourBy') + ' ', choice) : null;
   const caption = make('figcaption', {}, make('strong', {}, text('track')), chooser);
-  return make('figure', { className: 'track' }, caption, map, make('div', { className: 'under' }, keys, legend));
+  const under = make('div', { className: 'under' }, keys, legend);
+  return make('figure', { className: 'track' }, caption, map, scaleOf(width, metres), under, noteOf(track.faults));
+}
+
+// What is said of values that are left out of a picture.
+/** @param {number} count */
+export function noteOf(count) {
+  return count ? make('p', { className: 'note' }, text(count === 1 ? 'oneFault' : 'faults', { count })) : null;
 }
 
 // Marks of a start and a finish that would cover each other stand side by side.
@@ -44,7 +51,7 @@ function beside({ startAt, finishAt }, side) {
 function scaleOf(width, metres) {
   const [large, small, ratio, unit] = inMiles() ? ['miles', 'feet', 5280, FOOT] : ['km', 'metres', 1000, 1];
   const most = width / 3 * metres / unit, whole = most >= ratio ? ratio : 1, power = 10 ** Math.floor(Math.log10(most / whole));
-  const count = power * [5, 2, 1].find(it => it * power <= most / whole), line = make('span', { className: 'scale' });
+  const count = power * [5, 2, 1].find(it => it * power <= most / whole), line = make('div', { className: 'scale' });
   line.textContent = text(whole > 1 ? large : small, { n: numberText(count) });
   line.style.width = count * whole * unit / metres / width * 100 + '%';
   return line;

@@ -1,27 +1,32 @@
-// What ZIP and GZ files have in them takes their place, such as the exports of websites. The browser inflates.
+// What ZIP and GZ files have in them takes their place, such as the exports of websites, and so do the files in the image of a card. The
+// browser inflates.
+
+import { filesIn } from './finding.js';
+import { headOf, kindOf } from './picking.js';
 
 // So many bytes come out of all that is chosen at once, at most, and archives lie in one another so deep.
 const MOST_UNPACKED = 2 ** 29, DEEPEST = 3;
 
-// Files with their folders, without archives that have a FIT file or a journal in them. One that has none stays, and is refused by its
-// name.
-/** @param {Chosen[]} files @returns {Promise<Chosen[]>} */
-export async function unpacked(files) {
-  const left = { room: MOST_UNPACKED }, found = [];
+// Files with their folders, without archives and images that have a FIT file or a journal in them. An archive that has none stays, and is
+// refused by its name, and so is what is too long to be one file. `isWanted` says whether they are still asked for.
+/** @param {Chosen[]} files @param {() => boolean} isWanted @returns {Promise<Chosen[]>} */
+export async function unpacked(files, isWanted) {
+  const left = { room: MOST_UNPACKED, isWanted }, found = [];
   for (const it of files) found.push(...await contentOf(it, left, DEEPEST));
   return found;
 }
 
 async function contentOf({ file, folder }, left, depth) {
-  const [first, second] = new Uint8Array(await file.slice(0, 2).arrayBuffer().catch(() => new ArrayBuffer(0)));
-  const isZip = first === 0x50 && second === 0x4B, isGzip = first === 0x1F && second === 0x8B;
-  if (!depth || !(isZip || isGzip)) return [{ file, folder }];
-  const found = [], whole = async () => ({ name: file.name.replace(/\.gz$/i, ''), parts: await inflatedFrom(file, 'gzip', left) });
-  for (const { name, parts } of isZip ? await entriesOf(file, left) : [await whole()]) {
+  const head = await headOf(file), isZip = /^PK/.test(head), isArchive = isZip || /^\x1F\x8B/.test(head), found = [];
+  // In a folder or an archive nothing is taken for an image: films and maps in it may be long.
+  if (isArchive ? !depth : folder || kindOf(head)) return [{ file, folder }];
+  const whole = async () => ({ name: file.name.replace(/\.gz$/i, ''), parts: await inflatedFrom(file, 'gzip', left) });
+  if (!isArchive) for (const it of await filesIn(file, left.isWanted)) found.push({ file: it, folder: `${file.name}/`, isPart: true });
+  else for (const { name, parts } of isZip ? await entriesOf(file, left) : [await whole()]) {
     const own = name.split('/').pop(), path = isZip ? `${file.name}/${name.slice(0, name.length - own.length)}` : '';
     found.push(...await contentOf({ file: new File(parts, own), folder: folder + path }, left, depth - 1));
   }
-  return found.length ? found : [{ file, folder, isArchive: true }];
+  return found.length ? found : [{ file, folder, isArchive: isArchive || file.size > MOST_UNPACKED }];
 }
 
 // What inflates of a file, up to the first fault in it.

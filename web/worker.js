@@ -1,4 +1,5 @@
-// What the workers do, so that the page never stands still: one judges and saves, while the other reads and draws. Both are of this source.
+// What the workers do, so that the page never stands still: one finds, judges and saves, while the other reads and draws. Both are of this
+// source.
 
 import { curveOf, trackOf } from './drawing.js';
 import { open } from './fitrec.mjs';
@@ -8,11 +9,12 @@ import { answerTo } from './saving.js';
 let ready;
 const opened = new Promise(done => { ready = done; });
 
-onmessage = async ({ data: { module, number, ride, how, files, records, gaps = [], isOurs } }) => {
+onmessage = async ({ data: { module, number, card, goesOn, most, ride, how, files, records, gaps = [], isOurs } }) => {
   if (module) return ready(open(module));
   const report = step => postMessage({ number, step });
   try {
     const fitrec = await opened;
+    if (card) return postMessage({ number, answer: await fitrec.find(new Uint8Array(card), goesOn, most) });
     if (ride) {
       const answer = await answerTo(fitrec, ride, how), { parts = [] } = answer;
       for (const it of ['file', 'shown']) if (answer[it]) answer[it] = new Blob([answer[it]], { type: 'application/octet-stream' });
@@ -25,7 +27,7 @@ onmessage = async ({ data: { module, number, ride, how, files, records, gaps = [
     postMessage({ number, answer }, { transfer: lent.map(it => it.buffer) });
   } catch (error) {
     const isUnread = error.name === 'NotReadableError';
-    postMessage({ number, failed: error instanceof RangeError ? 'tooLarge' : isUnread ? 'unread' : error.kind || 'unexpected' });
+    postMessage({ number, failed: error instanceof RangeError ? 'tooLarge' : isUnread ? 'unread' : 'unexpected' });
   }
 };
 

@@ -1,4 +1,4 @@
-"""FIT files that are made for the checks: long ones, ones at a limit, and random ones, whole and damaged."""
+"""FIT files that are made for the checks: long ones, ones at a limit, and random ones, whole and damaged; and images of cards."""
 
 import re
 
@@ -13,6 +13,22 @@ def framed(records):
     start = bytes([14, 0x10, 100, 0]) + len(records).to_bytes(4, "little") + b".FIT"
     start += checksum(start).to_bytes(2, "little")
     return start + records + checksum(start + records).to_bytes(2, "little")
+
+
+def short(data):
+    """A file of the same records with a header of 12 bytes."""
+    start = b"\x0c" + data[1:12] + data[14:-2]
+    return start + checksum(start).to_bytes(2, "little")
+
+
+def image(pick, files):
+    """An image of a card that has these files in clusters of 4,096 bytes with noise between them, and their places."""
+    bytes_so_far, places = b"", []
+    for file in files:
+        bytes_so_far += pick.randbytes(4096 * pick.randrange(1, 5))
+        places.append(len(bytes_so_far))
+        bytes_so_far += file + pick.randbytes(-len(file) % 4096)
+    return bytes_so_far + pick.randbytes(4096), places
 
 
 def long_content(size):

@@ -13,6 +13,25 @@ from tools.visits import PAGE, RESCUED, WIDTHS, WINDOWS
 # The most milliseconds of a ride of 16 MB, and between two turns of the page, on a machine that others use too. Where that is slow, the
 # page may wait for a quarter of the time.
 MOST_MS, MOST_STILL_MS = 8000, 500
+# Notes for how long the page stands still, when it shows progress, how much, and when the answer is there.
+WATCH = """(() => {
+    const seen = window.seen = { gap: 0, progress: null, bar: [] }, began = () => { seen.began = performance.now(); };
+    const bar = document.getElementById('progress');
+    let last = performance.now();
+    document.getElementById('files').addEventListener('change', began, true);
+    setInterval(() => {
+      const now = performance.now(), isBusy = document.body.classList.contains('busy');
+      if (seen.began && !seen.ended) {
+        seen.gap = Math.max(seen.gap, now - last);
+        if (bar.checkVisibility()) {
+          seen.progress ??= now - seen.began;
+          if (seen.bar[seen.bar.length - 1] !== bar.value) seen.bar.push(bar.value);
+        }
+        if (!isBusy && !document.getElementById('result').hidden) seen.ended = now - seen.began;
+      }
+      last = now;
+    }, 5);
+  })()"""
 
 
 def most_still(seen):
@@ -84,20 +103,6 @@ def of_a_long_ride(fitrec, folder, browser):
             START + i, 566012345 + i, 102345678 + i % 1000, 2700 + i % 3000, 110 + i % 60, 80 + i % 9, 20 * i, 7800 + i % 500,
             150 + i % 120))
     where = recorded(fitrec, folder / "long", [*lines, "commit"])
-    watch = """(() => {
-        const seen = window.seen = { gap: 0, progress: null }, began = () => { seen.began = performance.now(); };
-        let last = performance.now();
-        document.getElementById('files').addEventListener('change', began, true);
-        setInterval(() => {
-          const now = performance.now(), isBusy = document.body.classList.contains('busy');
-          if (seen.began && !seen.ended) {
-            seen.gap = Math.max(seen.gap, now - last);
-            if (seen.progress === null && document.getElementById('progress').checkVisibility()) seen.progress = now - seen.began;
-            if (!isBusy && !document.getElementById('result').hidden) seen.ended = now - seen.began;
-          }
-          last = now;
-        }, 5);
-      })()"""
     # What runs unseen before it is a ride that a device left.
     short = folder / "short"
     short.mkdir()
@@ -116,6 +121,6 @@ def of_a_long_ride(fitrec, folder, browser):
         yield "progress from 0.3 s on", unless(250 < (seen["progress"] or 0) < 300 + most_still(seen), seen, "about 300 ms")
 
     for window in ("wide", "narrow and dark"):
-        steps = [{"evaluate": watch}, {"files": both(where)}, {"wait": 100}, {"evaluate": "window.seen"}]
+        steps = [{"evaluate": WATCH}, {"files": both(where)}, {"wait": 100}, {"evaluate": "window.seen"}]
         browser.visit("a long ride, %s" % window, steps, judge, **WINDOWS[window])
     yield from browser.outcomes()

@@ -14,7 +14,7 @@ from tools.page_values import BEGIN, ELAPSED, ENUM, HEART, TIME, TIMER, UINT16, 
 from tools.pages import START, both, recorded, tour
 from tools.program import bytes_of, run
 from tools.reader import EPOCH
-from tools.visits import FINE, MOSTLY, RESCUED, WIDTHS, WINDOWS
+from tools.visits import DATED, FINE, MOSTLY, RESCUED, WIDTHS, WINDOWS
 
 DAY = 86400
 NOW = int((datetime.datetime.now(datetime.timezone.utc).replace(tzinfo=None) - EPOCH).total_seconds())
@@ -70,7 +70,8 @@ def without_start(numbers):
 
 
 def of_clocks(fitrec, folder, browser):
-    """Where a ride began before 2000 or after today, the page asks when it began, and moves all its times as the program does."""
+    """Where a ride began before 2000, on the first of January of an early year, or after today, the page asks when it began, and moves all its
+    times as the program does."""
     torn, own = recorded(fitrec, folder / "torn", tour(900, AHEAD)), recorded(fitrec, folder / "own", tour(900))
     run(fitrec, "save", torn, folder / "ahead.fit")
     run(fitrec, "save", own, folder / "ride.fit")
@@ -82,6 +83,8 @@ def of_clocks(fitrec, folder, browser):
         def judge(shown, made):
             first, then, last = shown[1], shown[4], shown[7]
             yield "what it asks", differs(made[1] | {"why": None}, {"asked": QUESTION, "why": None, "value": value, "fold": None, "back": False})
+            yield "what it knows", differs((first["heading"], first["numbers"]["Start"], "nothing needs to be rescued" in first["reason"]),
+                                           (heading, "unknown", False))
             yield "why it asks", differs(made[1]["why"], "The clock of the device was wrong: at the start it showed %s." % day)
             yield "the answer is drawn", differs((then["heading"], then["numbers"]["Start"], then["focus"]), (after, SHOWN, "result"))
             yield "it can be given again", differs(parts(made[4], "asked", "value", "back"), [QUESTION, MORNING, True])
@@ -98,8 +101,11 @@ def of_clocks(fitrec, folder, browser):
 
     ahead = (EPOCH + datetime.timedelta(seconds=AHEAD)).strftime("%Y-%m-%dT%H:%M"), \
         (EPOCH + datetime.timedelta(seconds=AHEAD)).strftime("%B %-d, %Y at 10:00 AM UTC")
-    cases = [("1989", [folder / "1989.fit"], FINE, CORRECTED, "", "December 31, 1989 at 12:05 AM UTC", None, by_answer("1989.fit")),
-             ("45 days ahead", [folder / "ahead.fit"], FINE, CORRECTED, *ahead, None, by_answer("ahead.fit")),
+    # Many clocks begin anew in 2010.
+    moved(fitrec, folder / "ride.fit", folder / "2010.fit", "--start", "2010-01-01T00:03:10Z")
+    cases = [("1989", [folder / "1989.fit"], DATED, CORRECTED, "", "December 31, 1989 at 12:05 AM UTC", None, by_answer("1989.fit")),
+             ("2010", [folder / "2010.fit"], DATED, CORRECTED, "", "January 1, 2010 at 12:03 AM UTC", None, by_answer("2010.fit")),
+             ("45 days ahead", [folder / "ahead.fit"], DATED, CORRECTED, *ahead, None, by_answer("ahead.fit")),
              ("a recording 45 days ahead", both(torn), RESCUED, RESCUED, *ahead, bytes_of(folder / "ahead.fit"), by_answer("ahead.fit"))]
     for (name, files, *more), (width, window) in itertools.product(cases, WIDTHS.items()):
         steps = [{"files": files}, SEEN, *answered(MORNING), SEEN, {"evaluate": MAY_LEAVE}, SAVE, KEEP, SEEN, *([SAVE] if more[-2] else [])]
@@ -131,7 +137,10 @@ def of_other_clocks(fitrec, folder, browser):
     closing = {TIME: START + 600, BEGIN: 300, ELAPSED: 620_000, TIMER: 620_000}
     made = {"1989.fit": at("1989.fit", "--start", "1989-12-31T00:05:00Z"),
             "today.fit": at("today.fit", "--start", str(NOW - 3600)), "tomorrow.fit": at("tomorrow.fit", "--start", str(NOW + DAY)),
-            "2000.fit": at("2000.fit", "--start", "2000-01-01T00:00:00Z"), "1999.fit": at("1999.fit", "--start", "1999-12-31T23:00:00Z"),
+            # On the first of January of an early year clocks begin anew.
+            "2000.fit": at("2000.fit", "--start", "2000-01-02T00:00:00Z"), "2000-begun.fit": at("2000-begun.fit", "--start", "2000-01-01T00:00:00Z"),
+            "2011.fit": at("2011.fit", "--start", "2011-01-01T12:00:00Z"), "2012.fit": at("2012.fit", "--start", "2012-01-01T12:00:00Z"),
+            "1999.fit": at("1999.fit", "--start", "1999-12-31T23:00:00Z"),
             "set.fit": framed(begin(4, 300) + samples(*range(300, 320), *range(START, START + 600)) + message(19, closing) + message(18, closing)
                               + message(34, {TIME: START + 600, (1, UINT16): 1})),
             "untimed.fit": framed(begin(4, START) + samples(*600 * [None])), "course.fit": framed(begin(6, 300) + samples(*range(300, 600))),
@@ -143,7 +152,8 @@ def of_other_clocks(fitrec, folder, browser):
     def of_place(asked, fold):
         return lambda shown, made: [("what it asks", differs((made[1]["asked"], made[1]["fold"]), (asked, fold)))]
 
-    places = {"today": (None, FOLD), "tomorrow": (QUESTION, None), "2000": (None, FOLD), "1999": (QUESTION, None), "set": (None, FOLD),
+    places = {"today": (None, FOLD), "tomorrow": (QUESTION, None), "2000": (None, FOLD), "2000-begun": (QUESTION, None),
+              "2011": (QUESTION, None), "2012": (None, FOLD), "1999": (QUESTION, None), "set": (None, FOLD),
               "untimed": (None, None), "course": (None, None), "early": ("When did your activity begin?", None)}
     for (name, place), (width, window) in itertools.product(places.items(), WIDTHS.items()):
         browser.visit("%s at %s" % (name, width), [{"files": [folder / (name + ".fit")]}, SEEN], of_place(*place), **window)

@@ -6,7 +6,7 @@ import shutil
 import zipfile
 
 from tools.checks import differs, unless
-from tools.pages import RIDE, both, copy, recorded, rounded, rows
+from tools.pages import RIDE, both, copy, recorded, rounded, rows, tour
 from tools.program import NAMES, bytes_of, run
 from tools.rides import uncommitted
 from tools.visits import COMPLETED, FINE, MOSTLY, NOTHING, PARTLY, RESCUED, WINDOWS
@@ -63,7 +63,14 @@ def inputs(fitrec, folder):
     yield "a file without a summary", [folder / "bare.fit"], RESCUED, COMPLETED, "no lap message", by("bare.fit", "--finish"), []
     yield "no FIT file", made("notes.fit", b"notes of a ride"), NOTHING, "notes.fit is not a FIT file", "", None, []
     yield "an empty file", made("empty.fit", b""), NOTHING, "empty.fit is empty", "", None, []
-    yield "files of two rides", [ride, longer / NAMES[1]], RESCUED, pair, "not those of one recording", finished, []
+    # A journal that counts more bytes than there are is of another ride, or the file was cut off.
+    goes = "activity.fit goes to 1:51:39 AM: it was cut off, or activity.frj is of another activity."
+    yield "a longer journal", [ride, longer / NAMES[1]], MOSTLY, goes, "not those of one recording", finished, []
+    short = recorded(fitrec, folder / "short", [RIDE[0], "sample 1000000001 hr=100", "commit"])
+    yield "files of two rides", [ride, short / NAMES[1]], RESCUED, pair, "not those of one recording", finished, []
+    (folder / "headless").mkdir()
+    headless = [ride, *made("headless/activity.frj", bytes(8) + journal.read_bytes()[8:])]
+    yield "a journal whose head is damaged", headless, RESCUED, "activity.frj is damaged.", "no commit that counts", finished, []
     no_commit = [ride, *made("activity.frj", b"FRJD" + bytes(52))]
     yield "a journal of nothing", no_commit, RESCUED, begun, "no commit that counts", finished, []
     yield "a journal alone", [journal], "One more file is needed", "nothing of the recording itself", "", None, []
@@ -151,12 +158,18 @@ def of_choosing(fitrec, folder, browser):
 
     # What is offered, and what the program makes; and the way back from it.
     whole = by("whole.fit", "save", torn)
-    longer, follows = made("longer.fit", whole + whole[14:2000]), "Add what follows after its end"
+    # Of another ride, whose messages can be read.
+    run(fitrec, "save", recorded(fitrec, folder / "later", tour(900)), folder / "later.fit")
+    longer, follows = made("longer.fit", whole + (folder / "later.fit").read_bytes()[14:9000]), "Add what follows after its end"
     front, rest = by("kept.fit", "salvage", "--plain", *longer), by("all.fit", "salvage", "--all", "--skip", "--plain", *longer)
     one, back = {"click": "#offers button"}, "Go back"
     browser.visit("bytes after the end", [{"files": longer}, {"download": "#save"}],
                   last(RESCUED, front, "After its end comes more", offers=[follows]))
-    browser.visit("bytes after the end, read", [{"files": longer}, one, {"download": "#save"}], last(RESCUED, rest, offers=[back]))
+    # Its own beginning once more, of which nothing is added.
+    again, other = made("again.fit", whole + whole[14:2000]), "What follows after its end is of another activity or cannot be read"
+    browser.visit("bytes after the end that add nothing", [{"files": again}, {"download": "#save"}], last(RESCUED, front, other, offers=[]))
+    browser.visit("bytes after the end, read", [{"files": longer}, one, {"download": "#save"}],
+                  last(MOSTLY, rest, "on may be of another activity", offers=[back]))
     browser.visit("bytes after the end, read and left out", [{"files": longer}, one, one, {"download": "#save"}],
                   last(RESCUED, front, offers=[follows]))
     more = recorded(fitrec, folder / "more", [*RIDE, *NOT_COMMITTED])
@@ -169,8 +182,9 @@ def of_choosing(fitrec, folder, browser):
     browser.visit("the end that was not confirmed, and back", [{"files": both(more)}, one, one, {"download": "#save"}],
                   last(RESCUED, saved, offers=["Add the unconfirmed end"]))
     other = recorded(fitrec, folder / "other", [*RIDE, "sample 1000000300 hr=100", "commit"])
-    browser.visit("a journal of another ride", [{"files": [ride, other / NAMES[1]]}, {"download": "#save"}],
-                  last(RESCUED, alone, "do not fit together"))
+    # It counts more bytes than the ride has, so that the ride may be cut off.
+    browser.visit("a longer journal of another ride", [{"files": [ride, other / NAMES[1]]}, {"download": "#save"}],
+                  last(MOSTLY, alone, "it was cut off, or activity.frj is of another activity"))
     checked = recorded(fitrec, folder / "checked", [*RIDE[:1], "sample 1000000000 hr=99", *RIDE[2:]], "--checked")
     browser.visit("a journal of another ride, with a checksum", [{"files": [ride, checked / NAMES[1]]}, {"download": "#save"}],
                   last(RESCUED, alone, "do not fit together"))

@@ -7,9 +7,11 @@ import shutil
 import zipfile
 
 from tools.checks import differs, unless
-from tools.pages import RIDE, ascent_of, recorded, rows, series_of, tour
+from tools.fit_files import framed
+from tools.page_values import ENUM, HEART, TIME, UINT32, message
+from tools.pages import RIDE, START, ascent_of, recorded, rows, series_of, tour
 from tools.program import NAMES, bytes_of, run
-from tools.visits import COMPLETED, FINE, MOSTLY, NOTHING, PARTLY, RESCUED, WINDOWS
+from tools.visits import FINE, LAST_LAP, MOSTLY, NOTHING, PARTLY, RESCUED, WINDOWS
 
 MAY_BE_WRONG = "Some values may be wrong."
 
@@ -94,6 +96,7 @@ def of_holes(fitrec, folder, browser):
     torn = made("torn.fit", bytes(14) + whole[14:-400])
     cut = made("cut.fit", by(made("short.fit", whole[:len(whole) // 2]))[0])
     parts = [(made("most.fit", whole[:len(whole) * 3 // 5]), MOSTLY), (made("part.fit", whole[:len(whole) * 2 // 5]), PARTLY)]
+    # The laps of the rider are there up to the last one.
     take = {"download": "#save"}
     for window in WINDOWS:
         def visit(name, file, *wanted, steps=()):
@@ -115,11 +118,11 @@ def of_holes(fitrec, folder, browser):
         visit("no header", bare, RESCUED, ["The file is damaged, but all of it could be read."], ["begins with no FIT header.", *said_by(printed)],
               kept)
         kept, printed = by(torn, "--skip", "--finish")
-        visit("a damaged header and no end", torn, RESCUED, [COMPLETED], [*said_by(printed), heard_by(printed)], kept)
+        visit("a damaged header and no end", torn, RESCUED, [LAST_LAP], [*said_by(printed), heard_by(printed)], kept)
         kept, printed = by(torn, "--skip")
         visit("that without laps and totals", torn, RESCUED, ["The file is damaged, but all of it could be read."], said_by(printed), kept, steps=[{"click": "#rarely button"}])
         kept, printed = by(cut, "--finish")
-        visit("a summary is added", cut, RESCUED, [COMPLETED], [heard_by(printed)], kept)
+        visit("a summary is added", cut, RESCUED, [LAST_LAP], [heard_by(printed)], kept)
         for file, heading in parts:
             kept, printed = by(file, "--finish")
             goes = "It goes to %s." % clock_of(rows(kept)[-1]["timestamp"])
@@ -128,7 +131,7 @@ def of_holes(fitrec, folder, browser):
     browser.visit("no sample for a summary", [{"files": [made("unheard.fit", empty)]}],
                   judged("Nothing was recorded", ["had not recorded anything yet"], ["No record has a time that fits"], None))
     browser.visit("no ride at all", [{"files": [made("picture.fit", b"\x89PNG\r\n\x1a\n" + bytes(range(256)) * 40)]}],
-                  judged(NOTHING, ["is not a FIT file", "nothing is left of it that can be read"], [], None))
+                  judged(NOTHING, ["is not a FIT file", "what is lost of it is needed to read the rest"], [], None))
     yield from browser.outcomes()
 
 
@@ -198,7 +201,7 @@ def of_chains(fitrec, folder, browser):
         last = shown[-1]
         yield "one of them", differs((last["heading"], last["download"], last["numbers"]["Samples"]),
                                      (FINE, "2021-09-08-ride.fit", f"{len(rows(files[1])):,}"))
-        yield "why", unless("joined with others" in last["reason"], last["reason"], "joined with others")
+        yield "why", unless("part of a larger file" in last["reason"], last["reason"], "part of a larger file")
         yield "its file", differs(bytes_of(pathlib.Path(made[-1])), (kept / "2.fit").read_bytes())
 
     for window in WINDOWS:
@@ -210,4 +213,79 @@ def of_chains(fitrec, folder, browser):
         yield "its rides", differs([(it[0], it[4]) for it in shown[0]["list"]], [*states, ("other.fit", FINE)])
 
     browser.visit("a chain and another file", [{"files": [chain, folder / "other.fit"]}], of_others)
+    yield from browser.outcomes()
+
+
+def of_ends_and_pauses(fitrec, folder, browser):
+    """What is missing: after a hole whose length short times do not tell, at an end that is lost or blank, without pauses; what follows an end, and
+    what a damaged file had."""
+    where = recorded(fitrec, folder / "tour", tour(900))
+    run(fitrec, "save", where, folder / "whole.fit")
+    whole, data = (folder / "whole.fit").read_bytes(), (where / NAMES[0]).read_bytes()
+    path = folder / "damaged.fit"
+
+    def kept(content):
+        """The samples that the program keeps."""
+        path.write_bytes(content)
+        run(fitrec, "salvage", "--skip", "--plain", path, folder / "kept.fit")
+        return rows((folder / "kept.fit").read_bytes())
+
+    def visit(name, content, heading, lead, *more, absent="made up", offers=(), file="ride.fit"):
+        def judge(shown, made):
+            it, said = shown[-1], shown[-1]["reason"] + " " + shown[-1]["next"]
+            yield "its heading", differs(it["heading"], heading)
+            yield "what is read first", unless(re.match(lead, said), said, lead)
+            yield "what else is said", differs([own for own in more if own not in said], [])
+            yield "what is not said", unless(absent not in said, said, "not " + absent)
+            yield "offers", differs(it["offers"], list(offers))
+
+        here = folder / re.sub(r"\W+", "-", name)
+        here.mkdir()
+        (here / file).write_bytes(content)
+        browser.visit(name, [{"files": [here / file]}], judge)
+
+    # So many samples, of a second each, are lost, and the times after them begin anew within 32 seconds.
+    holed = data[:9000] + bytes(4096) + data[13096:]
+    lost, last = len(rows(whole)) - len(kept(holed)), rows(whole)[len(kept(data[:9000])) - 1]["timestamp"]
+    about = r"Missing: about %d min \(\d\.\d\d km\) from %s on\." % (round(lost / 60), clock_of(last))
+    visit("a hole before short times", holed, MOSTLY, about, "The times after that may be too early.", "choose it too")
+    small = data[:9000] + bytes(100) + data[9100:]
+    visit("a small hole before short times", small, RESCUED, "A few seconds of it are missing at most", absent="too early")
+    # Zeros and FF up to the full length, also where they complete a sample.
+    for at, byte in itertools.product(range(9000, 9030, 5), (0, 255)):
+        content = whole[:at] + bytes([byte]) * (len(whole) - at)
+        after = "Missing: what came after %s\\." % clock_of(kept(content)[-1]["timestamp"])
+        visit("%d at the end from %d on" % (byte, at), content, PARTLY, after, "The file is damaged.", absent="all of it could be read")
+    hole_and_end = whole[:9000] + bytes(3000) + whole[12000:18000]
+    end = "Missing: .*; what came after %s\\." % clock_of(kept(hole_and_end)[-1]["timestamp"])
+    visit("a hole and a cut end", hole_and_end, MOSTLY, end)
+    # A pause of ten minutes just before a hole, and just after it.
+    samples = lambda *of: b"".join(message(20, {TIME: START + at, HEART: 120}) for at in range(*of))
+    event = lambda at, kind: message(21, {TIME: START + at, (0, ENUM): 0, (1, ENUM): kind})
+    begin, stopped = message(0, {(0, ENUM): 4, (4, UINT32): START}), event(299, 4) + event(900, 0)
+    front, between, rest = begin + samples(300), bytes([15]) * 2000, samples(1000, 1400)
+    visit("a pause before a hole", framed(front + stopped + between + rest), "Most of your activity is rescued",
+          "Missing: %s to %s, 1 min 40 sec\\." % (clock_of(START + 900), clock_of(START + 1000)))
+    visit("a pause after a hole", framed(begin + samples(200) + between + stopped + samples(900, 1400)), "Most of your activity is rescued",
+          "Missing: %s to %s, 1 min 40 sec\\." % (clock_of(START + 199), clock_of(START + 299)))
+    # What follows goes on with the ride, or is a file of its own.
+    lengthened = whole[:4] + (len(whole) - 4016).to_bytes(4, "little") + whole[8:]
+    visit("a length that is too short", lengthened, RESCUED, "The file is damaged, but all of it could be read", absent="After its end")
+    run(fitrec, "save", recorded(fitrec, folder / "other", RIDE), folder / "other.fit")
+    both = folder / "both.fit"
+    both.write_bytes(whole[:9000] + (folder / "other.fit").read_bytes())
+
+    def of_both(shown, made):
+        yield "its rides", differs([(it[0], it[4]) for it in shown[0]["list"]], [("both.fit (1 of 2)", PARTLY), ("both.fit (2 of 2)", FINE)])
+
+    browser.visit("a whole file behind one that was cut off", [{"files": [both]}], of_both)
+    # The definition of the samples is one of events.
+    visit("no samples", whole.replace(b"\0\0\x14\0", b"\0\0\x15\0"), RESCUED, "It has only totals", absent="all of it could be read")
+    # What it lacks, and whose it is.
+    lap = message(19, {TIME: START + 299, (2, UINT32): START, (7, UINT32): 299000, (8, UINT32): 299000})
+    visit("laps and no totals", framed(front + lap), "Your activity is rescued", ".*The totals were missing\\.", absent="lap")
+    unfinished = bytes([14, 16, 100, 0, 0, 0, 0, 0]) + b".FIT\0\0" + front
+    visit("another maker's recording", unfinished, "Your activity is rescued", "The device stopped", absent="activity.frj")
+    visit("another maker's activity.fit", unfinished, "Your activity is rescued", "The device stopped", "If activity.frj is in", file="activity.fit")
+    visit("our recording under another name", data, RESCUED, "The device stopped", "If activity.frj is in")
     yield from browser.outcomes()

@@ -1,17 +1,20 @@
 """The page in a browser: what it says of values, by rides of another maker that are made here byte by byte."""
 
+import pathlib
+
 from tools.checks import differs
 from tools.fit_files import framed
-from tools.pages import START, average_of, rounded, weighted
+from tools.pages import SEMICIRCLE, START, average_of, rounded, weighted
 from tools.visits import WIDTHS, WINDOWS
 
-UINT8, UINT16, UINT32, ENUM = 0x02, 0x84, 0x86, 0x00
-SIZES = {ENUM: 1, UINT8: 1, UINT16: 2, UINT32: 4}
+UINT8, UINT16, UINT32, SINT32, ENUM = 0x02, 0x84, 0x86, 0x85, 0x00
+SIZES = {ENUM: 1, UINT8: 1, UINT16: 2, UINT32: 4, SINT32: 4}
 TIME = 253, UINT32
 # The fields of a sample, and of what closes a ride.
 HEART, POWER, SPEED, ENHANCED_SPEED, ALTITUDE, DISTANCE = (3, UINT8), (7, UINT16), (6, UINT16), (73, UINT32), (2, UINT16), (5, UINT32)
 BEGIN, ELAPSED, TIMER, LENGTH, MOST_HEART, MOST_POWER = (2, UINT32), (7, UINT32), (8, UINT32), (9, UINT32), (17, UINT8), (21, UINT16)
 
+LAT, LONG = (0, SINT32), (1, SINT32)
 CADENCE, MEAN_CADENCE, MEAN_POWER, ASCENT = (4, UINT8), (18, UINT8), (20, UINT16), (22, UINT16)
 
 
@@ -130,6 +133,22 @@ def of_values(fitrec, folder, browser):
     # A distance that a fault wrote, in a ride without a session.
     samples = [(at, {HEART: 120, DISTANCE: 10**8 if at == 300 else 800 * at}) for at in range(600)]
     visit("a distance that cannot be", ride(samples), {}, numbers={"Distance": "4.79 km"})
+
+    # Positions of bytes that were never written are on no map and in no track. The scale of the map is under it.
+    place = lambda at: {LAT: int((47 + at / 20000) * SEMICIRCLE), LONG: int(8.5 * SEMICIRCLE)} if at % 100 else {LAT: 0, LONG: 0}
+    samples = [(at, {HEART: 120, **place(at)}) for at in range(600)]
+    (folder / "zeros.fit").write_bytes(ride(samples))
+
+    def of_zeros(shown, made):
+        yield "it says so", differs(shown[0]["notes"], ["6 values cannot be right, and are left out."])
+        track = pathlib.Path(made[1]).read_text()
+        yield "the track", differs((track.count("<trkpt"), 'lat="0.0' in track), (594, False))
+        yield "the scale", differs(made[2], True)
+
+    under = "document.querySelector('.scale').getBoundingClientRect().top >= document.querySelector('.map').getBoundingClientRect().bottom"
+    for width, window in WIDTHS.items():
+        steps = [{"files": [folder / "zeros.fit"]}, {"download": "#asGpx"}, {"evaluate": under}]
+        browser.visit("positions of zeros at %s" % width, steps, of_zeros, **window)
 
     # Two sessions.
     samples = [(at, {HEART: 120, SPEED: 8000 if at < 600 else 3000, DISTANCE: 800 * at if at < 600 else 300 * (at - 600)})

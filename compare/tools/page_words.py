@@ -74,7 +74,9 @@ def inputs(fitrec, folder):
     yield "a part of another ride", one(whole[:20480] + later[8192:16384] + whole[28672:]), MOSTLY, GAP
     yield "the end of another ride", one(whole[:40960] + later[4096:20480]), MOSTLY, "What comes from December 18, 2024"
     yield "zeros after the end", one(whole + bytes(8192)), RESCUED, THERE
-    yield "more after the end", one(whole + whole[14:3000]), RESCUED, "After its end comes more, perhaps of another activity; you can add it."
+    # Its own beginning once more: nothing of it is added. What is of another ride can be read, and may be added.
+    yield "its beginning after the end", one(whole + whole[14:3000]), RESCUED, "What follows after its end is of another activity or cannot be read"
+    yield "more after the end", one(whole + later[14:9000]), RESCUED, "After its end comes more, perhaps of another activity; you can add it."
     yield "zeros", one(bytes(40000)), NOTHING, UNWRITTEN
     yield "FF", one(b"\xFF" * 40000), NOTHING, UNWRITTEN
     yield "any bytes", one(pick.randbytes(30000)), NOTHING, NO_FIT
@@ -96,7 +98,7 @@ def _holes(content, holes):
 
 
 def of_words(fitrec, folder, browser):
-    """Forty damaged files: the best rescue is there at once, and what is read first is one thing that a rider understands."""
+    """Damaged files: the best rescue is there at once, and what is read first is one thing that a rider understands."""
     def judged(heading, lead):
         def judge(shown, made):
             last, said = shown[-1], made[1]
@@ -115,7 +117,7 @@ def of_words(fitrec, folder, browser):
 
     said = {"evaluate": "['.lead', '.more', '#next', '#offers'].map(it => (document.querySelector(it) || {}).innerText || '')"}
     cases = list(inputs(fitrec, folder))
-    yield "so many", differs(len(cases), 40)
+    yield "so many", differs(len(cases), 41)
     for at, (name, files, heading, lead) in enumerate(cases):
         here = folder / str(at)
         here.mkdir()

@@ -13,7 +13,8 @@ WINDOWS = {"wide": {"width": 1280}, "narrow": {"width": 390, "touch": True},
 WIDTHS = {"1280": {"width": 1280}, "390": {"width": 390, "touch": True}, "320": {"width": 320, "touch": True}}
 RESCUED, MOSTLY, PARTLY = "Your ride is rescued", "Most of your ride is rescued", "Part of your ride is rescued"
 FINE, NOTHING = "This file is fine", "Nothing could be rescued"
-COMPLETED = "Its laps and totals were missing."
+COMPLETED, LAST_LAP = "The laps and totals were missing.", "The last lap and the totals were missing."
+DATED = "This file is whole, but its date is wrong"
 
 
 def visits(name, folder, asked, limit=900):
