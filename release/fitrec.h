@@ -18,7 +18,7 @@
        58,000 bytes   fitrec_columns, fitrec_fields, fitrec_values
        17,000 bytes   fitrec_shift, fitrec_shift_start
        14,000 bytes   fitrec_save, fitrec_plain
-       12,000 bytes   fitrec_finish
+       13,000 bytes   fitrec_finish
         7,000 bytes   fitrec_repair, fitrec_skip
         1,500 bytes   the others
 
@@ -51,7 +51,7 @@ uint32_t fitrec_version(void);
 #define FITREC_CLOSING_ROOM 254
 
 /* How many bytes fitrec_finish may add to a file. */
-#define FITREC_FINISH_ROOM 287
+#define FITREC_FINISH_ROOM 300
 
 /* How many bytes a salvage may add to a file. */
 #define FITREC_FRAME_ROOM 16
