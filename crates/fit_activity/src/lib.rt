@@ -29,6 +29,7 @@ pub use replay::{NotNext, Replay};
 pub use speaking::speech::{Speech, SpokenMessage};
 pub use speaking::{
     speak, speak_closing, speak_closing_with, speak_compressed, speak_file_id, speak_start,
+    speak_with,
 };
 pub use totals::Totals;
 pub use totals::frozen::{FrozenClock, FrozenSums, FrozenTally, FrozenTotals};

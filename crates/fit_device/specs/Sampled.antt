@@ -1,5 +1,5 @@
 -- The sample that the numbers of C stand for: a value is absent if its bit is not set, or it is the invalid one of its field.
-use Rattle.std.specs.Prelude.{ℕ, ℤ, pos, ◌/◌, ◌%◌, ◌==◌, if◌then◌else◌, Option, Some, None}
+use Rattle.std.specs.Prelude.{ℕ, Bool, ℤ, pos, ◌/◌, ◌%◌, ◌==◌, if◌then◌else◌, Option, Some, None}
 use Rattle.std.specs.Ordering.{int_eq}
 use Rattle.fit_activity.specs.declared.recording.entry.Sample.{Sample}
 use Rattle.fit_device.specs.declared.sample.DeviceSample.{DeviceSample}
@@ -13,6 +13,10 @@ unless_signed invalid value = if int_eq value (pos invalid) then None else Some 
 -- the value, if its bit is set
 abbrev pub given : {T : Type 0} → ℕ → ℕ → Option T → Option T
 given has bit value = if has / bit % 2 == 1 then value else None
+
+-- whether its time is written in full
+abbrev pub has_plain_time : DeviceSample → Bool
+has_plain_time s = s.has / 2048 % 2 == 1
 
 abbrev pub sample_given : DeviceSample → Sample
 sample_given s = record {

@@ -1,5 +1,5 @@
 -- What each call does to the recorder in a handle, and what its plan does to the two files.
-use Rattle.std.specs.Prelude.{◌≡◌, ◌⊎◌, ℕ, List, [], ◌∷◌, ◌++◌, Result}
+use Rattle.std.specs.Prelude.{◌≡◌, ◌⊎◌, ◌+◌, ◌≤◌, ℕ, List, [], ◌∷◌, ◌++◌, Result}
 use Rattle.fit_activity.specs.declared.recording.entry.Entry.{Entry}
 use Rattle.fit_activity.specs.declared.recording.entry.Entry.TheVariants.{Stop}
 use Rattle.fit_activity.specs.Rides.Recording.{Recorded, Added}
@@ -12,6 +12,7 @@ use Rattle.fit_disk.specs.Story.{Throughout}
 use Rattle.fit_journal.specs.Frozen.{slots_in}
 use Rattle.fit_recorder.specs.Calls.FaultCode.{fault_code}
 use Rattle.fit_recorder.specs.Calls.Frozen.{state_in, has_failed_in}
+use Rattle.fit_recorder.specs.Calls.Recorder.{timed_size}
 use Rattle.fit_recorder.specs.Calls.Answers.{HandAnswers, CommitAnswers, StopAnswers}
 use Rattle.fit_recorder.specs.Files.Body.{StandsFor}
 use Rattle.fit_recorder.specs.Files.Finished.{IsFinished}
@@ -47,6 +48,11 @@ pub record HandsEntry (e : Entry) (old new : Handle) (plan : DevicePlan) (code :
   pub never_fills : HandleNeverFills old → HandleNeverFills new
   pub any_moment : (list committed : List Recorded) → HandleStands old list committed
       → Throughout (StandsFor committed) (handle_story old) (handle_story new)
+
+-- if the entry is taken, its data message states its time
+abbrev pub HasTime : Entry → Handle → Handle → ℕ → Type 0
+HasTime e old new code = (list : List Recorded) → HandleWasHanded old list → code ≡ 0
+    → old.recorder.len + timed_size list e ≤ new.recorder.len
 
 -- All entries are committed. Any part of the plan leaves what was committed before, or all entries.
 pub record CommitsEntries (old new : Handle) (plan : DevicePlan) (code : ℕ) : Type 0 where

@@ -1,12 +1,12 @@
 // A sample in the memory of C.
 
 ghost use Rattle.std.specs.Prelude.{◌≡◌, ◌<◌, ◌==◌, if◌then◌else◌, Some, None};
-ghost use Rattle.fit_device.specs.Sampled.{given, unless, unless_signed, sample_given};
+ghost use Rattle.fit_device.specs.Sampled.{given, has_plain_time, unless, unless_signed, sample_given};
 
 use fit_activity::Sample;
 
-/// The values of the sensors at one time, in the units of `fit_activity::Sample`. The bits of `has` say which are there. A value is also
-/// absent if it is the greatest number of its type.
+/// The values of the sensors at one time, in the units of `fit_activity::Sample`. The bits of `has` say which are there, and one whether the
+/// time is written in full. A value is also absent if it is the greatest number of its type.
 #[repr(C)]
 #[derive(Clone, Copy)]
 pub struct DeviceSample {
@@ -47,6 +47,15 @@ const HEART_RATE: u32 = 256;
 const CADENCE: u32 = 512;
 
 const TEMPERATURE: u32 = 1024;
+
+// No value: the time is written in full.
+const PLAIN_TIME: u32 = 2048;
+
+pub(crate) fn has_plain_time(sample: &DeviceSample) -> bool
+    ensures { result ≡ has_plain_time sample.now }
+{
+    sample.has / PLAIN_TIME % 2 == 1
+}
 
 pub(crate) fn sample_of(sample: &DeviceSample) -> Sample
     ensures { result ≡ sample_given sample.now }

@@ -235,3 +235,24 @@ fn both_kinds_of_definitions_take_turns(rt: HostRuntime) -> Result<(), Fail> {
     equal(&rt, entries_reported(&file, &entries), Some(36));
     Ok(())
 }
+
+// One with a compressed timestamp, and two with their times in full, of which the first brings the definition.
+static IN_FULL: [u8; 35] = [
+    0x40, 0x00, 0x00, 0x14, 0x00, 0x01, 0x03, 0x01, 0x02, 0x81, 0x64, 0x41, 0x00, 0x00, 0x14, 0x00,
+    0x02, 0xFD, 0x04, 0x86, 0x03, 0x01, 0x02, 0x01, 0x02, 0xCA, 0x9A, 0x3B, 0x65, 0x01, 0x03, 0xCA,
+    0x9A, 0x3B, 0x66,
+];
+
+#[test]
+fn times_are_in_full_where_that_is_asked_for(rt: HostRuntime) -> Result<(), Fail> {
+    let entries = [rate!(1, 100), rate!(2, 101), rate!(3, 102)];
+    let mut recorder = begun(&rt)?;
+    recorder.hand(&entries[0])?;
+    recorder.hand_with(&entries[1], true)?;
+    recorder.hand_with(&entries[2], true)?;
+    recorder.commit()?;
+    let mut disk = recorder.into_disk();
+    ends_at(&rt, &disk, Which::Data, 86, &IN_FULL);
+    recover(&mut disk)?;
+    encodes(&rt, rt.alloc(), &disk, &entries)
+}
