@@ -101,7 +101,7 @@ CODE_ROWS = re.compile(r"(?m)^\| (?:code of recording.*?|on Cortex-M0\+|on RISC-
 BEYOND_ROW = re.compile(r"(?m)^\| a session beyond the calls below it.*? \| ([\d.]+), ([\d.]+), ([\d.]+) KB; (\d+); (\d+) bytes \|")
 BELOW = {"boot": "reopen_next", "begin": "reopen_next", "add": "add_sample", "lap": "add_lap", "pause": "pause_timer", "resume": "resume_timer",
          "store": "commit", "end": "stop", "clear": "erase_next", "go_on": "reopen_next", "set_clock": "reopen_next"}
-MOST_BEYOND, MOST_CODE = 256, 1700
+MOST_BEYOND, MOST_CODE = 256, 1750
 FOR_ARM = dict(zip(PROCESSORS, ("fitrec-cortex-m4.o", "fitrec-cortex-m0plus.o")))
 # The languages that the header of a device is for.
 COMPILED = [("-std=c99",), ("-std=c11",), ("-std=c17",), ("-std=c2x",), ("-x", "c++", "-std=c++11"), ("-x", "c++", "-std=c++20")]
@@ -638,6 +638,9 @@ def check(given):
             yield from given.checks(sessions.of_repaired_rides, fitrec, made["as it is"], seed)
             yield from given.checks(sessions.of_older_rides, fitrec, made["as it is"])
             yield from given.checks(sessions.of_clocks, fitrec, made["as it is"])
+            yield from given.checks(sessions.of_options, fitrec, made["as it is"])
+            yield from given.checks(sessions.of_boots, fitrec, made["as it is"])
+            yield from given.checks(sessions.of_lost_data, made["as it is"])
         yield from given.checks(of_embedded_hosts, fitrec, archive, given.files // 30, seed)
         yield from given.checks(sessions.of_the_page, fitrec, archive)
         with programs(ROOT / "compare/mistakes.c", FAULTY, archive) as made:

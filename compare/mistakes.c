@@ -150,7 +150,7 @@ static enum fitrec_answer noted(enum fitrec_answer answer) {
 }
 
 static int begin_by_session(void) {
-    struct fitrec_device device = {size_of, read_bytes, write_bytes, right.cut, right.sync, {&kept->disk.files[0], &kept->disk.files[1]}, 0};
+    struct fitrec_device device = {size_of, read_bytes, write_bytes, right.cut, right.sync, {&kept->disk.files[0], &kept->disk.files[1]}, 0, 0};
     struct fitrec_found found;
     enum fitrec_answer answer = noted(fitrec_boot(&kept->session, &device, now, &found));
     if (answer == FITREC_DEVICE && !kept->disk.is_dark)

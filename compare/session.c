@@ -12,7 +12,7 @@
    answered that they are stored, and how many were handed. A script has
 
      boot CLOCK | begin CLOCK SERIAL SPORT | add CLOCK KEY=VALUE.. | lap CLOCK | pause CLOCK | resume CLOCK | store | end CLOCK | clear |
-     go_on CLOCK | set CLOCK */
+     go_on CLOCK | set CLOCK | keeps_distance 0 OR 1 | plain_times 0 OR 1 */
 
 #include "../examples/device/faulty.h"
 #include "lives.h"
@@ -81,6 +81,8 @@ static void find_file(const char *folder, int file) {
 static void set_value(struct fitrec_sample *sample, const char *key, long long value) {
     if (!strcmp(key, "hr")) sample->heart_rate = (uint8_t)value, sample->has |= FITREC_HAS_HEART_RATE;
     else if (!strcmp(key, "dist")) sample->distance = (uint32_t)value, sample->has |= FITREC_HAS_DISTANCE;
+    else if (!strcmp(key, "lat")) sample->lat = (int32_t)value, sample->has |= FITREC_HAS_LAT;
+    else if (!strcmp(key, "long")) sample->lon = (int32_t)value, sample->has |= FITREC_HAS_LON;
     else if (!strcmp(key, "power")) sample->power = (uint16_t)value, sample->has |= FITREC_HAS_POWER;
     else fail("an unknown key", 0);
 }
@@ -112,6 +114,8 @@ static enum fitrec_answer call(char *line, char word[16]) {
     if (!strcmp(word, "clear")) return fitrec_clear(&session);
     if (!strcmp(word, "go_on")) return fitrec_go_on(&session, (uint32_t)clock, &found);
     if (!strcmp(word, "set")) return fitrec_set_clock(&session, (uint32_t)clock);
+    if (!strcmp(word, "keeps_distance")) return device.keeps_distance = (uint8_t)clock, FITREC_OK;
+    if (!strcmp(word, "plain_times")) return device.plain_times = (uint8_t)clock, FITREC_OK;
     fail("an unknown line", 0);
     return FITREC_OK;
 }

@@ -57,5 +57,5 @@ static __attribute__((noinline)) void note(struct measured *it) {
         return answer; \
     }
 MEASURED(repair) MEASURED(uncommitted) MEASURED(leave_changed) MEASURED(save) MEASURED(salvage) MEASURED(skip) MEASURED(first_file)
-MEASURED(version) MEASURED(check) MEASURED(finish) MEASURED(plain) MEASURED(shift) MEASURED(shift_start) MEASURED(show) MEASURED(json)
-MEASURED(columns) MEASURED(fields) MEASURED(values)
+MEASURED(version) MEASURED(check) MEASURED(finish) MEASURED(plain) MEASURED(shift) MEASURED(shift_start) MEASURED(first_time) MEASURED(join)
+MEASURED(show) MEASURED(json) MEASURED(columns) MEASURED(fields) MEASURED(values)

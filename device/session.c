@@ -18,6 +18,10 @@ enum { BOOT = SET + 1, STORE, ADD, LAP, PAUSE, RESUME, END };
 /* What is done by windows. */
 enum { RECOVERS, REOPENS, ERASES };
 
+/* The bytes of a journal: a head, and three slots, each with a gate that is open if it counts. */
+#define JOURNAL 56
+#define OPEN 0xA5
+
 /* The earliest time that a ride may begin at. */
 #define EARLIEST 0x10000000u
 
@@ -136,10 +140,17 @@ static uint8_t reopen(struct fitrec_session *it, uint32_t clock) {
     return answer;
 }
 
+/* Whether files in which nothing is recorded are those of a ride all the same, of which one was opened in place of the other, or another file in
+   place of the data: that is empty beside a journal with an open slot, or is a journal itself. */
+static bool is_of_ride(struct fitrec_session *it) {
+    const uint8_t *front = it->recovery.window;
+    uint8_t file = it->size[FITREC_DATA_FILE] ? FITREC_DATA_FILE : FITREC_JOURNAL_FILE;
+    return it->size[file] >= JOURNAL && read_all(it, file, 0, JOURNAL) && front[0] == 'F' && front[1] == 'R' &&
+           (file == FITREC_DATA_FILE || front[8] == OPEN || front[24] == OPEN || front[40] == OPEN);
+}
+
 /* What the files hold. They are finished if a recovery leaves them as they are. A ride that has its stop gets its finished file. */
 static uint8_t look(struct fitrec_session *it, uint32_t clock) {
-    if (it->size[FITREC_DATA_FILE] == 0)
-        return FITREC_FOUND_EMPTY;
     if (states_all(it) && by_windows(it, RECOVERS) == FITREC_OK && carry_out(it, true))
         return FITREC_FOUND_FINISHED;
     uint8_t answer = reopen(it, clock);
@@ -149,7 +160,7 @@ static uint8_t look(struct fitrec_session *it, uint32_t clock) {
         return FITREC_FOUND_FINISHED;
     if (answer == FITREC_ERASING)
         return FITREC_FOUND_ERASING;
-    if (answer == FITREC_NOTHING_RECORDED && it->size[FITREC_DATA_FILE] <= FITREC_LONGEST_START)
+    if (answer == FITREC_NOTHING_RECORDED && it->size[FITREC_DATA_FILE] <= FITREC_LONGEST_START && !is_of_ride(it))
         return FITREC_FOUND_EMPTY;
     it->found.why = answer;
     return FITREC_FOUND_KEEP;
@@ -164,12 +175,16 @@ static bool find_size(struct fitrec_session *it, uint8_t file) {
     return done == last || (done < 0 && last) || fails(it, FITREC_SIZE, file);
 }
 
+/* Without a reset since the last boot the odometer goes on, and so does what is added to it. */
 static uint8_t boot(struct fitrec_session *it, const struct fitrec_device *device, uint32_t clock) {
+    uint32_t distance = booted == it ? it->distance : 0;
     booted = it;
     memset(it, 0, sizeof *it);
     it->device = *device;
     if (find_size(it, FITREC_DATA_FILE) && find_size(it, FITREC_JOURNAL_FILE))
         it->found.finding = look(it, clock);
+    if (!device->keeps_distance)
+        it->distance = distance;
     return FITREC_OK;
 }
 
@@ -237,8 +252,10 @@ static enum fitrec_answer make(struct fitrec_session *it, uint32_t clock, uint8_
             break;
         case ADD:
             sample->time = time;
+            if (it->device.plain_times)
+                sample->has |= FITREC_PLAIN_TIME;
             if (sample->has & FITREC_HAS_DISTANCE && sample->distance != UINT32_MAX) {
-                if (!it->is_taken)
+                if (!it->is_taken && sample->distance + it->distance < it->found.state.distance)
                     it->distance = fitrec_session_base(it->found.state.distance, sample->distance);
                 it->is_taken = 1;
                 sample->distance += it->distance;

@@ -119,7 +119,7 @@ void faulty_hold(struct faulty_file *file, const void *bytes, uint32_t len) {
 }
 
 void faulty_begin(struct faulty_disk *disk, struct fitrec_device *device) {
-    *device = (struct fitrec_device){size_of, read_bytes, write_bytes, cut, sync_file, {&disk->files[0], &disk->files[1]}, 0};
+    *device = (struct fitrec_device){size_of, read_bytes, write_bytes, cut, sync_file, {&disk->files[0], &disk->files[1]}, 0, 0};
     memset(disk, 0, offsetof(struct faulty_disk, files));
     for (int k = 0; k < 2; k++) {
         disk->files[k].disk = disk;

@@ -68,7 +68,7 @@ int open_files(struct fitrec_device *device, const char *folder) {
     static int files[2];
     files[0] = open_one(folder, "activity.fit");
     files[1] = open_one(folder, "activity.frj");
-    *device = (struct fitrec_device){size_of, read_bytes, write_bytes, cut, sync_file, {&files[0], &files[1]}, 0};
+    *device = (struct fitrec_device){size_of, read_bytes, write_bytes, cut, sync_file, {&files[0], &files[1]}, 0, 0};
     int opened = open_again(folder, O_RDONLY);
     /* The names are kept too. */
     int kept = opened >= 0 && sync_file(&opened) == 0;

@@ -49,7 +49,7 @@ static int cut(void *file, uint32_t size) { return lfs_file_truncate(&littlefs, 
 static int sync_file(void *file) { return lfs_file_sync(&littlefs, file) ? fails(file) : 0; }
 
 int open_files(struct fitrec_device *device, const char *folder) {
-    *device = (struct fitrec_device){size_of, read_bytes, write_bytes, cut, sync_file, {&files[0], &files[1]}, 0};
+    *device = (struct fitrec_device){size_of, read_bytes, write_bytes, cut, sync_file, {&files[0], &files[1]}, 0, 0};
     for (int k = 0; k < 2; k++) {
         struct open *it = &files[k];
         int len = snprintf(it->path, sizeof it->path, "%s/%s", folder, k ? "activity.frj" : "activity.fit");
