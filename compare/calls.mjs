@@ -18,8 +18,9 @@ function shown(answer) {
 
 const answers = [];
 for (const { name, files, more = [] } of JSON.parse(readFileSync(0, 'utf8'))) {
+  const contents = files.map(it => new Uint8Array(readFileSync(it)));
   try {
-    answers.push(shown(await fitrec[name](...files.map(it => new Uint8Array(readFileSync(it))), ...more)));
+    answers.push(shown(await fitrec[name](...(name === 'join' ? [contents] : contents), ...more)));
   } catch ({ kind, place, message }) {
     answers.push(kind ? { kind, place } : { message });
   }

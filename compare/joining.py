@@ -11,7 +11,8 @@ import tempfile
 from finishing import Maker, recorded, ride
 from programs import read_by_gpsbabel, sample
 from tools.checks import Skipped, differs
-from tools.finished import ENUM, UINT16, UINT32, closing, heard, opening, value_of
+from tools.described import descriptions
+from tools.finished import ENUM, UINT8, UINT16, UINT32, closing, heard, opening, value_of
 from tools.fit_files import compressed_ride, framed
 from tools.holes import messages as found_in, numbers
 from tools.needs import missing
@@ -23,7 +24,9 @@ NEEDS = ("fitrec", "gpsbabel")
 
 START = 1000000000
 INVALID = 0xFFFFFFFF
-FILE_ID, SPORT, SESSION, LAP, RECORD, EVENT, ACTIVITY = 0, 12, 18, 19, 20, 21, 34
+FILE_ID, SPORT, SESSION, LAP, RECORD, EVENT, ACTIVITY, DESCRIPTION, DEVELOPER = 0, 12, 18, 19, 20, 21, 34, 206, 207
+# The fields that are developer data indices.
+INDICES = {DEVELOPER: 3, DESCRIPTION: 0}
 STOPS, STARTS = (1, 4, 8, 9), (0,)
 
 
@@ -64,12 +67,38 @@ def timer_event(time, kind):
     return EVENT, [(253, (UINT32, False, time.to_bytes(4, "little"))), (0, (ENUM, False, b"\0")), (1, (ENUM, False, bytes([kind])))], []
 
 
+def maker_of(fields):
+    """The bytes of application_id and developer_id, where their types have values of one byte."""
+    stated = [next((it for field, it in fields if field == wanted), (None, False, b"")) for wanted in (1, 0)]
+    return [content if base in BASE_TYPES and BASE_TYPES[base][1] == 1 else b"" for base, _, content in stated]
+
+
+def given_to(part, makers):
+    """The index in the joined file of each developer data index that a part declares. `makers` are those of the parts before it, by their
+    indices, and those of this part are added."""
+    given = {}
+    for message, fields, _ in part:
+        index = value_of(fields, 3, UINT8) if message == DEVELOPER else None
+        if index is not None and index not in given:
+            maker = maker_of(fields)
+            given[index] = next((it for it in (index, *range(255)) if makers.get(it, maker) == maker), index)
+            makers[given[index]] = maker
+    return given
+
+
+def further(part, reached):
+    """How much further the distances of a part go after parts that went so far: not at all if its odometer went on."""
+    distances = [value_of(fields, 5, UINT32) for message, fields, _ in part if message == RECORD]
+    first = next((it for it in distances if it is not None), None)
+    return 0 if first is not None and reached >= 10_000 and 0 <= first - reached <= 100_000 else reached
+
+
 def joined(parts):
     """The messages of these parts as one activity, without those that close it."""
-    out, reached, laps = [], 0, 0
+    out, reached, laps, makers = [], 0, 0, {}
     keeps_laps = any(map(made_laps, parts))
     for place, part in enumerate(parts):
-        begun, events, times = reached, timer_events(part), entry_times(part, keeps_laps)
+        begun, events, times, given = further(part, reached), timer_events(part), entry_times(part, keeps_laps), given_to(part, makers)
         if place and times and events[:1] != [0]:
             out.append(timer_event(times[0], 0))
         for message, fields, developer in part:
@@ -82,7 +111,9 @@ def joined(parts):
             if message == LAP:
                 fields = list(with_value(fields, 254, UINT16, lambda _: min(laps, 0xFFFF)))
                 laps += 1
-            out.append((message, fields, developer))
+            if message in INDICES:
+                fields = list(with_value(fields, INDICES[message], UINT8, lambda it: given.get(it, it)))
+            out.append((message, fields, [(given.get(index, index), *others) for index, *others in developer]))
         if place + 1 < len(parts) and times and (not events or events[-1] == 0):
             out.append(timer_event(times[-1], 4))
     return out
@@ -337,12 +368,87 @@ def compared(fitrec):
             yield "compared: three", judge(fitrec, folder, "three %d" % at, datas)[1]
 
 
+def developed(time, *makers, big=0):
+    """A part with records of these makers of developer data: for each its index, application_id, developer_id, and the name of its field."""
+    order, records = "big" if big else "little", b""
+
+    def definition(local, message, fields, developer=()):
+        parts = [fields, developer] if developer else [fields]
+        start = bytes([0x60 | local if developer else 0x40 | local, 0, big]) + message.to_bytes(2, order)
+        return start + b"".join(bytes([len(part)]) + b"".join(map(bytes, part)) for part in parts)
+
+    for index, application, developer, name in makers:
+        records += definition(1, DEVELOPER, [(1, len(application), 13), (0, len(developer), 13), (3, 1, 2)])
+        records += b"\1" + application + developer + bytes([index])
+        records += definition(2, DESCRIPTION, [(0, 1, 2), (1, 1, 2), (2, 1, 2), (3, len(name), 7)]) + bytes([2, index, 9, 2]) + name
+    for at, (index, *_) in enumerate(makers):
+        records += definition(0, RECORD, [(253, 4, UINT32)], [(9, 1, index)]) + b"\0" + (time + at).to_bytes(4, order) + bytes([at])
+    return framed(records)
+
+
+def names_in(data):
+    """The name that each developer field of a record has, by the last description before it."""
+    found = messages(data, False, lambda *it: [it])[3]
+    return [it and it.name for (message, *_), own in zip(found, descriptions(found)) if message == RECORD for it in own]
+
+
+def makers(fitrec):
+    """Parts whose developer data has one maker or several, at the same indices or others: each record has the field of its own maker again,
+    and each maker the indices that are wanted, one after another."""
+    def maker(index, letter, developer=b""):
+        return index, letter * 16, developer, b"of " + letter + developer[:1] + b"\0"
+
+    a, b, c, own, many = b"A", b"B", b"C", bytes(range(16)), [maker(it, bytes([it])) for it in range(255)]
+    rows = [("two makers", [[maker(0, a)], [maker(0, b)]], [0, 1]),
+            ("one maker", [[maker(0, a)], [maker(0, a)]], [0, 0]),
+            ("a free index", [[maker(0, a)], [maker(3, b)]], [0, 3]),
+            ("one maker at another index", [[maker(5, a)], [maker(3, a)]], [5, 3]),
+            ("a maker again", [[maker(0, a)], [maker(0, b)], [maker(0, a)]], [0, 1, 0]),
+            ("both again", [[maker(0, a)], [maker(0, b)], [maker(1, b), maker(0, a)], [maker(0, b)]], [0, 1, 1, 0, 1]),
+            ("two in a part", [[maker(0, a), maker(1, b)], [maker(0, b), maker(1, a)], [maker(1, c), maker(0, b)]], [0, 1, 1, 0, 2, 1]),
+            ("the one before is taken", [[maker(0, a)], [maker(0, b), maker(1, c)]], [0, 1, 2]),
+            ("another developer", [[maker(7, a, own)], [maker(7, a, own[::-1])], [maker(7, a)], [maker(7, a, own)]], [7, 0, 1, 7]),
+            ("the last index", [[maker(254, a)], [maker(254, b)]], [254, 0]),
+            ("no maker", [[(0, b"", b"", b"one\0")], [(0, b"", b"", b"one\0")], [maker(0, a)]], [0, 0, 1]),
+            ("no index is left", [many, [maker(9, a), maker(8, bytes([77]))]], [*range(255), 65, 77]),
+            ("none at all", [many, [(9, b"other", b"", b"of 9\0")]], [*range(255), 9])]
+    with tempfile.TemporaryDirectory() as folder:
+        for name, parts, wanted in rows:
+            datas = [developed(START + 1000 * at, *its, big=at % 2) for at, its in enumerate(parts)]
+            difference = judge(fitrec, folder, name, datas)[1]
+            out = bytes_of(pathlib.Path(folder, name, "out.fit"))
+            if difference is None:
+                came = [index for _, _, developer in stated(out) for index, *_ in developer], names_in(out)
+                difference = differs(came, (wanted, [it for data in datas for it in names_in(data)]), datas)
+            yield "makers: " + name, difference
+
+
+def part(time, *distances):
+    """A part with records of these distances, one a second."""
+    record = bytes([0x40, 0, 0, 20, 0, 2, 253, 4, 0x86, 5, 4, 0x86])
+    return framed(record + b"".join(b"\0" + (time + at).to_bytes(4, "little") + it.to_bytes(4, "little") for at, it in enumerate(distances)))
+
+
+def odometers(fitrec):
+    """The distances of a later part go on from those before it if its odometer began at 0, and stay as they are if it went on."""
+    rows = [("began at 0", [[0, 20000], [0, 300]], [0, 20000, 20000, 20300]), ("went on", [[0, 20000], [20000, 20500]], [0, 20000, 20000, 20500]),
+            ("1 km further", [[0, 20000], [120000, 120007]], [0, 20000, 120000, 120007]), ("further", [[0, 20000], [120001]], [0, 20000, 140001]),
+            ("a centimetre less", [[0, 20000], [19999]], [0, 20000, 39999]), ("after 100 m", [[0, 10000], [10000]], [0, 10000, 10000]),
+            ("after less", [[0, 9999], [9999]], [0, 9999, 19998]), ("no first distance", [[0, 20000], [INVALID, 20100]], [0, 20000, INVALID, 20100]),
+            ("a part without one", [[0, 20000], [INVALID], [20100, 20200]], [0, 20000, INVALID, 20100, 20200]),
+            ("went on and began at 0", [[0, 20000], [20000, 30000], [0, 50], [30050]], [0, 20000, 20000, 30000, 30000, 30050, 30050])]
+    with tempfile.TemporaryDirectory() as folder:
+        for name, parts, wanted in rows:
+            difference = judge(fitrec, folder, name, [part(START + 100 * at, *its) for at, its in enumerate(parts)])[1]
+            if difference is None:
+                out = stated(pathlib.Path(folder, name, "out.fit").read_bytes())
+                came = [number(its[5][2], its[5][1]) for its in (dict(fields) for message, fields, _ in out if message == RECORD)]
+                difference = differs(came, wanted)
+            yield "odometers: " + name, difference
+
+
 def limits(fitrec):
     """Compressed times, distances as long as four bytes allow, a part that is not there, many parts, and OUT as one of the parts."""
-    record = bytes([0x40, 0, 0, 20, 0, 2, 253, 4, 0x86, 5, 4, 0x86])
-    def part(time, *distances):
-        rows = b"".join(b"\0" + (time + at).to_bytes(4, "little") + it.to_bytes(4, "little") for at, it in enumerate(distances))
-        return framed(record + rows)
     with tempfile.TemporaryDirectory() as folder:
         for name, datas in (("compressed times", [compressed_ride(100), compressed_ride(40)]),
                             ("the longest distance", [part(START, INVALID - 1), part(START + 9, 0, 1, INVALID - 1, INVALID)]),
@@ -385,5 +491,5 @@ def check(given):
     yield from given.checks(of_other_makers, given)
     yield from given.checks(of_our_own, given)
     yield from given.checks(of_other_makers_files, given)
-    for group in (laps, compared, limits, by_gpsbabel):
+    for group in (laps, compared, makers, odometers, limits, by_gpsbabel):
         yield from given.checks(group, given.fitrec)

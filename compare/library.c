@@ -12,6 +12,8 @@
      library finish IN OUT                   the finished file goes to OUT; its buffer has just as many bytes, and too few at first
      library shift SECONDS IN OUT            the moved file goes to OUT; its buffer has just as many bytes, and too few at first
      library start TIME IN OUT               the same, moved so that the ride begins at this time
+     library first IN                        the first time
+     library join AS_GIVEN IN OUT            the parts of IN are joined, as a shift is made
      library check IN
      library show IN UTC OUT                 the text goes to OUT; its buffer has just as many bytes, and too few at first
      library json IN UTC OUT                 the same as JSON
@@ -310,6 +312,65 @@ static void shift(bool to_start, char **words) {
     check_guards(out);
     printf("%u\n", answer);
     if (answer && (answer <= FITREC_TRAILING_BYTES || answer == FITREC_SHIFT_TOO_FAR))
+        printf("at %llu\n", (unsigned long long)place);
+    check_guards(in);
+}
+
+static void first(char **words) {
+    struct buffer in = file_at(words[0], 0);
+    uint32_t time;
+    uint64_t place;
+    fill(&time, sizeof time);
+    fill(&place, sizeof place);
+    unsigned answer = fitrec_first_time(in.bytes, in.size, &time, &place);
+    check_numbers(&time, sizeof time, answer != FITREC_FIRST_TIME);
+    check_numbers(&place, sizeof place, !answer || answer > FITREC_TRAILING_BYTES);
+    printf("%u\n", answer);
+    if (answer == FITREC_FIRST_TIME)
+        printf("%u\n", time);
+    else if (answer <= FITREC_TRAILING_BYTES)
+        printf("at %llu\n", (unsigned long long)place);
+    check_guards(in);
+}
+
+/* Whether an answer to a join names a place. */
+static bool is_placed(unsigned answer) {
+    return answer && (answer <= FITREC_TRAILING_BYTES || (answer >= FITREC_JOIN_OTHER_SPORT && answer <= FITREC_JOIN_NOT_PLAIN));
+}
+
+/* Joins into a buffer of so many bytes. */
+static unsigned join_in(bool as_given, struct buffer in, size_t size, struct buffer *out, uint64_t *place) {
+    *out = room(size);
+    fill(place, sizeof *place);
+    fill(&out->len, sizeof out->len);
+    unsigned answer = fitrec_join(in.bytes, in.size, as_given, out->bytes, out->size, &out->len, place);
+    bool is_refused = answer != FITREC_JOINED && answer != FITREC_JOIN_NO_ROOM;
+    check_numbers(place, sizeof *place, !is_placed(answer));
+    check_numbers(&out->len, sizeof out->len, is_refused);
+    if (is_refused)
+        check_numbers(out->bytes, out->size, true);
+    return answer;
+}
+
+static void join(char **words) {
+    struct buffer in = file_at(words[1], 0), out;
+    bool as_given = words[0][0] == '1';
+    uint64_t place;
+    unsigned answer = join_in(as_given, in, 0, &out, &place);
+    check_guards(out);
+    if (answer == FITREC_JOIN_NO_ROOM) {
+        uint64_t needed = out.len;
+        if (join_in(as_given, in, needed - 1, &out, &place) != FITREC_JOIN_NO_ROOM || out.len != needed)
+            fail("another answer to a buffer that lacks one byte");
+        check_guards(out);
+        answer = join_in(as_given, in, needed, &out, &place);
+        keep(out, words[2]);
+    } else {
+        join_in(as_given, in, 2 * in.size + 1024, &out, &place);
+    }
+    check_guards(out);
+    printf("%u\n", answer);
+    if (is_placed(answer))
         printf("at %llu\n", (unsigned long long)place);
     check_guards(in);
 }
@@ -679,6 +740,10 @@ int main(int count, char **words) {
         finish(words + 2);
     else if (count == 5 && (!strcmp(words[1], "shift") || !strcmp(words[1], "start")))
         shift(!strcmp(words[1], "start"), words + 2);
+    else if (count == 3 && !strcmp(words[1], "first"))
+        first(words + 2);
+    else if (count == 5 && !strcmp(words[1], "join"))
+        join(words + 2);
     else if (count == 3 && !strcmp(words[1], "check"))
         check(words + 2);
     else if (count == 5 && !strcmp(words[1], "show"))

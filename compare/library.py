@@ -12,7 +12,7 @@ from unittest import mock
 from tools import release
 from tools.checks import differs, unless
 from tools.libraries import WARNINGS, build, declared, names_of, programs
-from tools.library_calls import ANSWERS, of_files, of_finished, of_mended, of_recordings, of_shifted, of_shown_and_checked, of_values
+from tools.library_calls import ANSWERS, of_files, of_finished, of_joined, of_mended, of_recordings, of_shifted, of_shown_and_checked, of_values
 from tools.program import ROOT, run
 
 NEEDS = ("fitrec", "rt", "cc")
@@ -66,7 +66,7 @@ def of_stacks(given, archive):
         yield "compiled with painted stacks", differs(made, (0, "", ""))
         with mock.patch.dict(os.environ, FITREC_STACKS=str(said)):
             yield from of_recordings(given.fitrec, program, given.files // 48, given.seed)
-            for group in (of_files, of_finished, of_mended, of_shifted, of_shown_and_checked, of_values):
+            for group in (of_files, of_finished, of_joined, of_mended, of_shifted, of_shown_and_checked, of_values):
                 yield from group(given.fitrec, program, given.files // 96, given.seed)
         stated, most = stated_stacks(), {}
         for name, size in (it.split() for it in said.read_text().splitlines()):
@@ -92,5 +92,5 @@ def check(given):
         with programs(ROOT / "compare/library.c", archive, words=("-std=c99", "-pedantic")) as made:
             for how, program in made.items():
                 yield from given.checks(of_recordings, given.fitrec, program, given.files // 12, given.seed, under=how)
-                for group in (of_files, of_finished, of_mended, of_shifted, of_shown_and_checked, of_values):
+                for group in (of_files, of_finished, of_joined, of_mended, of_shifted, of_shown_and_checked, of_values):
                     yield from given.checks(group, given.fitrec, program, given.files // 48, given.seed, under=how)

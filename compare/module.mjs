@@ -192,6 +192,22 @@ function shifted(name, number, path, out) {
 const shift = ([seconds, path, out]) => shifted('fitrec_shift', BigInt(seconds), path, out);
 const start = ([time, path, out]) => shifted('fitrec_shift_start', new Number(time), path, out);
 
+function first([path]) {
+  const memory = new Guarded(), file = read(path), at = memory.put(file), time = memory.room(4), place = memory.number();
+  const answer = memory.call('fitrec_first_time', at, file.length, time, place);
+  print(String(answer));
+  if (answer === 0) print(String(memory.view.getUint32(time, true)));
+  else if (answer <= 9) print('at ' + memory.long(place));
+  memory.lookAtGuards();
+}
+
+function join([asGiven, path, out]) {
+  const { answer, file, place } = exactly(size => written('fitrec_join', read(path), size, [asGiven === '1']));
+  print(String(answer));
+  if (answer === 0) writeFileSync(out, file);
+  else if (answer <= 9 || (answer >= 29 && answer <= 31)) print('at ' + place);
+}
+
 function finish([path, out]) {
   const source = read(path), { answer, file, counts, place } = exactly(size => written('fitrec_finish', source, size, [], 2));
   if (answer === 0 && file.length > source.length + FINISH_ROOM) throw new Error('a file that is longer than documented');
@@ -260,5 +276,5 @@ function lengths([dataPath, journalPath]) {
 }
 
 const version = () => print(String(Number(new Guarded().call('fitrec_version') === 1)));
-const calls = { repair, save, uncommitted, earlier, salvage, skip, split, plain, shift, start, finish, check, show, json, columns, lengths, version };
+const calls = { repair, save, uncommitted, earlier, salvage, skip, split, plain, shift, start, first, join, finish, check, show, json, columns, lengths, version };
 calls[word](words);

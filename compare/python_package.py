@@ -42,12 +42,14 @@ except fitrec.FitError as error:
     where: int | None = error.place
 saved: bytes = fitrec.salvage(b"", all=True).data + fitrec.skip(b"").data + fitrec.finish(b"").data
 moved: bytes = fitrec.shift(b"", by=datetime.timedelta(days=1)) + fitrec.shift(b"", start=1) + fitrec.shift(b"", -3600)
+joined: bytes = fitrec.join([b"", "a.fit"], as_given=True, most_bytes=9).data
 pieces: list[fitrec.Piece] = fitrec.skip(b"").pieces
 rows: int = fitrec.write_many(["a.fit"], "folder", "power").rows
 many: fitrec.Columns = fitrec.check_many(["a.fit"])
 nothing: fitrec.Columns = fitrec.schema(["power"], message=20)
 fitrec.read(1.5)  # arg-type
 fitrec.shift(b"", start="2026")  # arg-type
+fitrec.join(5)  # arg-type
 wrong: int = fitrec.check(b"", most_bytes=1 << 20).start  # assignment
 fitrec.read("ride.fit", enums=True, most_bytes="1")  # arg-type
 fitrec.iter_many(["a.fit"], ["power"], workers="2")  # arg-type

@@ -4,11 +4,12 @@ pandas and the package are, with the name of a group, the program, the number of
     typed       values of every type that is asked for, over random files, with the second reader
     rows        the rows and the faults of rides, some of them damaged, with `table --each`; also through a folder
     checked     `check_many` with `check --each --json`
-    whole       what is salvaged, skipped over, finished, shifted and split, with the program's files, byte by byte
+    whole       what is salvaged, skipped over, finished, shifted, split and joined, with the program's files, byte by byte
     cluster     the rows by a cluster of Dask of which workers are killed, with those of one process
 
 It prints what differs first, or how much it compared."""
 
+import contextlib
 import csv
 import io
 import itertools
@@ -271,7 +272,7 @@ def checked(program, many, seed):
 
 
 def whole(program, many, seed):
-    pick, same = random.Random(seed), {"salvage": 0, "skip": 0, "finish": 0, "shift": 0, "split": 0}
+    pick, same = random.Random(seed), {"salvage": 0, "skip": 0, "finish": 0, "shift": 0, "split": 0, "join": 0}
     with tempfile.TemporaryDirectory() as folder:
         source, out = pathlib.Path(folder, "in.fit"), pathlib.Path(folder, "out.fit")
         inputs = [*rides(program, pick, many, 0.9), *(damaged(pick, made(pick)) for _ in range(many))]
@@ -329,6 +330,25 @@ def whole(program, many, seed):
             if fitrec.split(chained) != [it.read_bytes() for it in sorted(to.iterdir(), key=lambda it: int(it.stem))]:
                 return "files of %s" % chained.hex()
             same["split"] += 1
+        for at in range(many):
+            ride = pick.choice(inputs[:many])
+            with contextlib.suppress(fitrec.FitError):
+                inputs.append(fitrec.shift(ride, 86400 * (at + 1)))
+            parts = [ride, inputs[-1]] if at % 3 else [pick.choice(inputs) for _ in range(pick.choice([2, 2, 3]))]
+            names = [pathlib.Path(folder, "%d.fit" % number) for number in range(len(parts))]
+            for name, data in zip(names, parts):
+                name.write_bytes(data)
+            out.unlink(missing_ok=True)
+            said = run(program, "join", *["--as-given"] * (at % 2), out, *names)
+            try:
+                came = fitrec.join(names, as_given=bool(at % 2)).data
+                same["join"] += 1
+            except fitrec.FitError as fault:
+                came = None
+                if not plain_fault(said[2]).startswith("fitrec: %s" % fault):
+                    return "%s and not %s of %s" % (fault, said, [it.hex() for it in parts])
+            if came != (out.read_bytes() if out.exists() else None):
+                return "another file than %s of %s" % (said, [it.hex() for it in parts])
     return "same %d" % min(same.values()) if min(same.values()) else "none of %s" % same
 
 

@@ -8,11 +8,13 @@ import re
 import shutil
 import tempfile
 
+import joining
 from finishing import Maker, recorded, ride
 from tools import reader
 from tools.checks import differs
 from tools.described_files import described_file
 from tools.fit_files import compressed_ride, damaged, framed, long_content, made, widest
+from tools.holes import messages as found_in, numbers
 from tools.program import NAMES, bytes_of, holds, room, run
 from tools.reader import checksum, names_of
 from tools.rides import damaged_pair, script_of, uncommitted
@@ -325,6 +327,94 @@ def of_shifted(fitrec, program, count, seed):
             source.write_bytes(content)
             for difference in beyond(program, source, mine):
                 yield "more seconds than there are times", difference
+
+
+def refused_of(program, chain, source, as_given):
+    """The answer to a join of these bytes by the second reader, and the place that it names, if it names one. The places at which the files
+    are cut are the library's."""
+    source.write_bytes(chain)
+    parts, at = [], 0
+    for size in [int(it) for it in run(program, "split", source)[1].split()] or [0]:
+        own = chain[at:at + size]
+        if len(parts) == 64:
+            return 32, None
+        try:
+            parts.append(joining.stated(own))
+        except reader.Refused as refused:
+            kind, place = re.match(r"(\w+).* at (\d+)", str(refused)).groups()
+            return ANSWERS[kind], at + int(place)
+        row = numbers(own[:-2])[1]
+        if any(row[it.start] & 0x80 for it in found_in(row)):
+            return 31, at
+        at += size
+    found = None if as_given else joining.misfit(parts)
+    if found:
+        sizes = [int(it) for it in run(program, "split", source)[1].split()]
+        return {"OtherSport": 29, "Overlap": 30}[found[1]], sum(sizes[:found[0]])
+    return 0, list(joining.texts(joining.joined(parts)))
+
+
+def joined(program, chain, source, mine, as_given):
+    """What differs between the parts that the library joins and the second reader's."""
+    answer, known = refused_of(program, chain, source, as_given)
+    said = run(program, "join", int(as_given), source, mine)
+    lines = "%d\n%s" % (answer, "at %d\n" % known if answer and known is not None else "")
+    new = bytes_of(mine)
+    mine.unlink(missing_ok=True)
+    return differs((said, new and joining.shown_of(new)), ((0, lines, ""), None if answer else known), (chain, as_given))
+
+
+def of_joined(fitrec, program, count, seed):
+    """The first times of files, and parts that are joined: activities of other makers in any order, cut rides, damaged ones, more than 64 and
+    none."""
+    pick = random.Random(seed)
+    with room() as (_, new):
+        folder = pathlib.Path(new())
+        source, mine, its = (folder / name for name in ("in.fit", "mine.fit", "its.fit"))
+        chains = [b"", framed(b""), framed(b"") * 64, framed(b"") * 65, compressed_ride(40)]
+        for _ in range(max(count, 4)):
+            parts, time = [], 1000000000
+            for _ in range(pick.choice([1, 2, 2, 3])):
+                maker = Maker(pick)
+                maker.time = time
+                parts.append(reader.plained(maker.activity())[1])
+                time = maker.time + pick.choice([0, 1, 600, 600, -40])
+            if pick.random() < 0.3:
+                pick.shuffle(parts)
+            chains += [b"".join(parts), damaged(pick, b"".join(parts)), b"".join(parts) + compressed_ride(5)]
+            for part in parts + [damaged(pick, parts[0]), framed(b"")]:
+                source.write_bytes(part)
+                try:
+                    time = joining.first_time(joining.stated(part))
+                    wanted = "27\n" if time is None else "0\n%d\n" % time
+                except reader.Refused as refused:
+                    kind, place = re.match(r"(\w+).* at (\d+)", str(refused)).groups()
+                    wanted = "%d\nat %s\n" % (ANSWERS[kind], place)
+                yield "the first time of a file", differs(run(program, "first", source), (0, wanted, ""), part)
+        for chain in chains:
+            for as_given in False, True:
+                yield "parts that are joined", joined(program, chain, source, mine, as_given)
+        parts = joining.halves(recorded_ride(fitrec, new, pick), 7, 12)
+        plains = []
+        for at, part in enumerate(parts):
+            (folder / ("%d.fit" % at)).write_bytes(part)
+            run(fitrec, "plain", folder / ("%d.fit" % at), its)
+            plains.append(its.read_bytes())
+        source.write_bytes(b"".join(plains))
+        run(program, "join", 0, source, mine)
+        finished = run(program, "finish", mine, folder / "whole.fit")[1].partition("\n")[0], bytes_of(folder / "whole.fit")
+        said = run(fitrec, "join", its, *[folder / ("%d.fit" % at) for at in range(len(parts))])
+        yield "a ride that is joined and finished", differs(finished, (str(answer_of(said)), bytes_of(its)))
+
+
+def recorded_ride(fitrec, new, pick):
+    """A ride of our own, saved."""
+    folder = pathlib.Path(new())
+    script = folder / "script"
+    script.write_text(script_of(20, 4))
+    run(fitrec, "replay", script, ride_in := new())
+    run(fitrec, "save", ride_in, folder / "saved.fit")
+    return (folder / "saved.fit").read_bytes()
 
 
 def all_fields(data, message):

@@ -24,11 +24,11 @@ from ._many import Result, check_many, iter_many, read_many, refuse, write_many
 from ._reading import columns_of
 from ._schema import Field, OtherType, listed, schema
 from ._sources import Source, bytes_of
-from ._whole import Finished, Piece, Salvaged, Skipped, Summary, check, finish, salvage, shift, skip, split
+from ._whole import Finished, Piece, Salvaged, Skipped, Summary, check, finish, join, salvage, shift, skip, split
 
 __all__ = ["Columns", "Fault", "Finished", "FitError", "NO_VALUE", "OtherType", "Piece", "Result", "Salvaged", "Skipped", "Summary",
-           "WorkerDied", "Written", "check", "check_many", "finish", "iter_many", "read", "read_folder", "read_many", "salvage", "schema",
-           "shift", "skip", "split", "write_many"]
+           "WorkerDied", "Written", "check", "check_many", "finish", "iter_many", "join", "read", "read_folder", "read_many", "salvage",
+           "schema", "shift", "skip", "split", "write_many"]
 
 def read(source: Source, message: Union[int, str] = "record", fields: Union[Field, Iterable[Field], None] = None,
          raw: bool = False, enums: bool = False, most_bytes: Optional[int] = None) -> Columns:

@@ -23,7 +23,7 @@ OVER_LIMIT = "OverLimit"
 FAULTS = {1: "Truncated", 2: "HeaderSize", 3: "Magic", 4: "Protocol", 5: "HeaderCrc", 6: "UndefinedLocal", 7: "SplitMessage",
           8: "FileCrc", 9: "TrailingBytes", 11: "NoFileId", 12: "NotActivity", 13: "NoLap", 14: "NoSession", 15: "NoActivity",
           20: OVER_LIMIT, 21: "TooLong", 22: "TooLarge", 26: "NoSample", 27: "NoTime",
-          28: "TimeTooFar"}
+          28: "TimeTooFar", 29: "OtherSport", 30: "Overlap", 32: "TooManyFiles"}
 # For how many messages a filler has room at first, and for how many it keeps it.
 _USUAL_ROWS, _MOST_KEPT_ROWS = 4096, 65536
 # What the library says of a value: the place of its message, where in that it begins, and its size, base type byte and byte order.

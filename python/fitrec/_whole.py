@@ -1,11 +1,12 @@
-"""What the library does with whole files: it checks, salvages, finishes, shifts and splits them."""
+"""What the library does with whole files: it checks, salvages, finishes, joins, shifts and splits them."""
 
 from __future__ import annotations
 
 import ctypes
 import datetime
 import operator
-from typing import Any, Dict, List, NamedTuple, Optional, Tuple, Union
+import os
+from typing import Any, Dict, Iterable, List, NamedTuple, Optional, Tuple, Union
 
 import numpy as np
 
@@ -18,7 +19,7 @@ _ABSENT = 2**32 - 1
 _EPOCH = datetime.datetime(1989, 12, 31, tzinfo=datetime.timezone.utc)
 _FIRST_DATE = 0x10000000
 _FRAME_ROOM, _FINISH_ROOM = 16, 300
-_NO_ROOM, _MORE_PIECES, _TOO_FAR = 20, 25, 28
+_NO_ROOM, _MORE_PIECES, _NO_TIME, _TOO_FAR, _OTHER_SPORT, _OVERLAP = 20, 25, 27, 28, 29, 30
 
 # The numbers of a summary, in the order of the library, and their units.
 _NUMBERS = {"records": "", "laps": "", "sessions": "", "start": "date", "elapsed_ms": "ms", "timer_ms": "ms", "distance_cm": "cm"}
@@ -83,6 +84,9 @@ _skip = call("fitrec_skip", *_IN, ctypes.c_bool, *_OUT, ctypes.c_void_p, ctypes.
 _finish = call("fitrec_finish", *_IN, *_OUT, ctypes.c_void_p, ctypes.c_void_p)
 _shift = call("fitrec_shift", *_IN, ctypes.c_int64, *_OUT, ctypes.c_void_p)
 _shift_start = call("fitrec_shift_start", *_IN, ctypes.c_uint32, *_OUT, ctypes.c_void_p)
+_plain = call("fitrec_plain", *_IN, *_OUT, ctypes.c_void_p)
+_first_time = call("fitrec_first_time", *_IN, ctypes.c_void_p, ctypes.c_void_p)
+_join = call("fitrec_join", *_IN, ctypes.c_bool, *_OUT, ctypes.c_void_p)
 _first_file = call("fitrec_first_file", *_IN, answer=ctypes.c_uint64)
 
 
@@ -197,17 +201,67 @@ def shift(source: Source, by: Union[int, datetime.timedelta, None] = None, start
     else:
         raise ValueError("either by or start says how times are moved")
     data, path = bytes_of(source, most_bytes)
+    with _named(path):
+        return _written(ask, data, [number], most_bytes).tobytes()
+
+
+def _written(ask: Any, data: Bytes, words: List[Any], most_bytes: Optional[int]) -> np.ndarray:
+    """The new file that a call writes. It raises FitError."""
     # mostly enough, and else the second try has enough
     out, size, place = _room(len(data) + len(data) // 2 + 1024, most_bytes), ctypes.c_uint64(), ctypes.c_uint64()
     while True:
-        code = ask(pointer_to(data), len(data), number, pointer_to(out), len(out), ctypes.byref(size), ctypes.byref(place))
+        code = ask(pointer_to(data), len(data), *words, pointer_to(out), len(out), ctypes.byref(size), ctypes.byref(place))
         if code != _NO_ROOM or (most_bytes is not None and size.value > most_bytes):
             break
         out = _room(size.value, most_bytes)
-    with _named(path):
-        if code:
-            raise FitError(FAULTS[code], place.value if code < 10 or code == _TOO_FAR else None)
-    return out[:size.value].tobytes()
+    if code:
+        raise FitError(FAULTS[code], place.value if code < 10 or code in (_TOO_FAR, _OTHER_SPORT, _OVERLAP) else None)
+    return out[:size.value]
+
+
+def join(sources: Iterable[Source], as_given: bool = False, most_bytes: Optional[int] = None) -> Finished:
+    """Makes one activity of several files, such as the halves of a ride whose device ran out of power, in the order of their times. Distances
+    go on from file to file, laps are numbered in turn, between two files the timer stands, and what the whole activity then lacks is added,
+    as finish does.
+
+    A file of another sport than those before it is refused with OtherSport, and one that begins before another one ends with Overlap, unless
+    as_given is true: then files are joined in the order in which they are given. It raises FitError for these, for a file that is none, of
+    the kind TooManyFiles for more than 64 of them, and as finish does for the whole. Its path is that of the file at fault, or "file 2" for
+    the second one if that is given as bytes. OSError is for a file that cannot be read, and ValueError for none at all."""
+    parts = []
+    for number, source in enumerate(sources, 1):
+        name = os.fspath(source) if isinstance(source, (str, os.PathLike)) else "file %d" % number
+        with _named(name):
+            data = bytes_of(source, most_bytes)[0]
+            parts.append((_begins(data), _written(_plain, data, [], most_bytes), name))
+    if not parts:
+        raise ValueError("no file to join")
+    if not as_given:
+        parts.sort(key=lambda part: part[0])
+    try:
+        joined = _written(_join, np.concatenate([part for _, part, _ in parts]), [as_given], most_bytes)
+    except FitError as fault:
+        raise FitError(fault.kind, None, _part_at(parts, fault.place)) from None
+    return finish(memoryview(joined), most_bytes)
+
+
+def _begins(data: Bytes) -> int:
+    """The first time of a file, by which its part is put in order. One without a time comes last."""
+    time, place = ctypes.c_uint32(), ctypes.c_uint64()
+    code = _first_time(pointer_to(data), len(data), ctypes.byref(time), ctypes.byref(place))
+    if code and code != _NO_TIME:
+        raise FitError(FAULTS[code], place.value)
+    return _ABSENT if code else time.value
+
+
+def _part_at(parts: List[Tuple[int, np.ndarray, str]], place: Optional[int]) -> Optional[str]:
+    """The name of the part that begins at a place among them, None for none."""
+    at = 0
+    for _, part, name in parts:
+        if at == place:
+            return name
+        at += len(part)
+    return None
 
 
 def _seconds(by: Union[int, datetime.timedelta]) -> int:

@@ -127,6 +127,39 @@ class OfWholeFiles(unittest.TestCase):
             self.assertRaises(ValueError, fitrec.shift, ACTIVITY, **wrong)
         self.assertRaises(TypeError, fitrec.shift, ACTIVITY, 1.5)
 
+    def test_join(self):
+        # 1000000000 and 10 m, then 1000000060 and 5 m, which becomes 15 m; between them the timer stands
+        halves = [framed("40 00 00 14 00 02 FD 04 86 05 04 86 00 %s CA 9A 3B %s" % it) for it in (("00", "E8 03 00 00"), ("3C", "F4 01 00 00"))]
+        joined = framed("40 00 00 14 00 02 FD 04 86 05 04 86 00 00 CA 9A 3B E8 03 00 00"
+                        " 40 00 00 15 00 03 FD 04 86 00 01 00 01 01 00 00 00 CA 9A 3B 00 04"
+                        " 40 00 00 15 00 03 FD 04 86 00 01 00 01 01 00 00 3C CA 9A 3B 00 00"
+                        " 40 00 00 14 00 02 FD 04 86 05 04 86 00 3C CA 9A 3B DC 05 00 00")
+        self.assertEqual(fitrec.join(halves), fitrec.finish(joined))
+        self.assertEqual(fitrec.join(halves[::-1]), fitrec.finish(joined))
+        self.assertEqual(fitrec.join(iter(halves), as_given=True), fitrec.finish(joined))
+        self.assertEqual(fitrec.join(halves[:1]), fitrec.finish(halves[0]))
+        self.assertEqual(fitrec.join([halves[0]] * 64).heard, 190)
+
+    def test_what_is_not_joined(self):
+        def refused(kind, place, path, sources, **how):
+            with self.assertRaises(fitrec.FitError) as caught:
+                fitrec.join(sources, **how)
+            self.assertEqual((caught.exception.kind, caught.exception.place, caught.exception.path), (kind, place, path))
+        running, cycling = (framed("40 00 00 0C 00 01 00 01 00 00 " + it) for it in ("01", "02"))
+        late = framed("40 00 00 14 00 01 FD 04 86 00 3C CA 9A 3B 00 00 CA 9A 3B")
+        refused("OtherSport", None, "file 2", [running, cycling])
+        refused("NoSample", None, None, [running, cycling], as_given=True)
+        refused("Truncated", 0, "file 2", [running, b""])
+        refused("HeaderSize", 0, "file 1", [bytes(20), running])
+        refused("TooManyFiles", None, None, [running] * 65)
+        refused("OverLimit", 16, "file 1", [running], most_bytes=16)
+        with tempfile.TemporaryDirectory() as folder:
+            path = pathlib.Path(folder, "late.fit")
+            path.write_bytes(late)
+            early = framed("40 00 00 14 00 01 FD 04 86 00 32 CA 9A 3B 00 46 CA 9A 3B")
+            refused("Overlap", None, str(path), [path, early])
+        self.assertRaises(ValueError, fitrec.join, [])
+
     def test_split(self):
         self.assertEqual(fitrec.split(RIDE + ACTIVITY + b"rest"), [RIDE, ACTIVITY, b"rest"])
         self.assertEqual(fitrec.split(b""), [])

@@ -1,4 +1,6 @@
+mod Chained
 mod Kept
 mod Recovered
+mod Within
 mod Written
 mod Finished

@@ -37,12 +37,15 @@ file_counted frame size records few =
       length-append whole (two_bytes Little (crc whole)),
     ))
 
--- a plain form that is not too long
+-- a file that is not too long
+pub encoded_counted : (v : FileValue) → data_size v.items < 2 ^ 32 → u64_saturate (length (encoded v)) ≡ length (encoded v)
+encoded_counted v few =
+    file_counted v.frame (data_size v.items) (encoded_items v.items) (omega (arith, few, encoded_items-length v.items))
+
+-- a plain form that is not
 pub form_counted : (v : FileValue) → data_size (plain_items v.items) < 2 ^ 32
     → u64_saturate (length (encoded (plain_of v))) ≡ length (encoded (plain_of v))
-form_counted v few =
-    file_counted v.frame (data_size (plain_items v.items)) (encoded_items (plain_items v.items))
-    (omega (arith, few, encoded_items-length (plain_items v.items)))
+form_counted v few = encoded_counted (plain_of v) few
 
 -- ---- whether a plain form is too long
 
@@ -68,10 +71,14 @@ pub records_counted : (items : List Item) (tape : List ℕ) (len : ℕ) → len 
 records_counted items tape len counted made small =
     let long : length tape ≡ data_size items = ap length made ∙ encoded_items-length items in omega (arith, counted, long, small)
 
+pub over : (items : List Item) (tape : List ℕ) (len : ℕ) → len ≡ u64_saturate (length tape) → tape ≡ encoded_items items → 4294967295 < len
+    → 4294967295 < data_size items
+over items tape len counted made large =
+    let long : length tape ≡ data_size items = ap length made ∙ encoded_items-length items in omega (arith, counted, long, large)
+
 pub too_large : (items : List Item) (tape : List ℕ) (len : ℕ) → len ≡ u64_saturate (length tape) → tape ≡ encoded_items items
     → list_any has_too_many_fields items ≡ false → 4294967295 < len → is_too_long 0 items ≡ true
 too_large items tape len counted made few large =
-    let long : length tape ≡ data_size items = ap length made ∙ encoded_items-length items in
-    let over : 4294967295 < data_size items = omega (arith, counted, long, large) in
+    let large : 4294967295 < data_size items = over items tape len counted made large in
     let size : nat_lt 4294967295 (0 + data_size items) ≡ true = grind (arith, nat_tests) in
     ap (λ (b : Bool). b || nat_lt 4294967295 (0 + data_size items)) few ∙ size

@@ -2,6 +2,7 @@ pub mod Files
 pub mod Repaired
 pub mod Room
 pub mod Finished
+pub mod Joined
 pub mod Salvaged
 pub mod Saved
 pub mod Shifted

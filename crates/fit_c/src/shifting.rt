@@ -15,7 +15,7 @@ use fit_grammar::LentFile;
 use fit_shifting::{Shift, ShiftBy, find_stuck, shift_plain};
 
 // No message has a time.
-const NO_TIME: u8 = 27;
+pub const NO_TIME: u8 = 27;
 
 // A time would be below 0, or 4294967295 or more.
 const TIME_TOO_FAR: u8 = 28;

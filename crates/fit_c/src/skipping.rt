@@ -122,7 +122,7 @@ fn take_in(seen: &[u8], looked: &Looked, room: &mut PieceRoom<'_>)
         × CutsFaults seen.now looked.now.front looked.now.trusted taken }
 {
     match cut_faults(seen, looked.front, looked.trusted, room) {
-        Ok(()) => {}
+        Ok(_) => {}
         Err(fault) => match fault {},
     }
 }

@@ -1,6 +1,6 @@
 -- The items of the joined file: they are a file's, without compressed timestamps, and their messages are the joined ones. For
 -- `write_joined`.
-use Rattle.std.proofs.Common.{◌≡◌, ℕ, ◌<◌, Bool, true, false, List, [], ◌∷◌, ◌++◌, length, map, Option, Some, None, refl, sym, ap, subst, ◌∙◌, arith, append_assoc, append-nil, if◌then◌else◌}
+use Rattle.std.proofs.Common.{◌≡◌, ℕ, ◌<◌, Bool, true, false, List, [], ◌∷◌, ◌++◌, ◌==◌, length, map, Option, Some, None, refl, sym, ap, subst, ◌∙◌, arith, append_assoc, append-nil, if◌then◌else◌}
 use Rattle.std.specs.Prelude.{option_map, option_to_list, unwrap_or, IsSomeAnd}
 use Rattle.std.specs.List.{AllByRecursion}
 use Rattle.std.specs.Option.{option_or}
@@ -8,7 +8,7 @@ use Rattle.std.proofs.lemmas.Option.{none-some}
 use Rattle.fit_grammar.specs.declared.definition.Definition.{Definition}
 use Rattle.fit_grammar.specs.Format.Item.{Item, Defines, Data, content_size}
 use Rattle.fit_grammar.specs.Format.Encoding.{encoded, encoded_item, encoded_items, HasEncoding}
-use Rattle.fit_grammar.specs.Format.Records.{in_force, definition_by, IsDefined, RecordsAfter}
+use Rattle.fit_grammar.specs.Format.Records.{in_force, IsDefined, RecordsAfter}
 use Rattle.fit_grammar.specs.Format.File.{FileValue, FileOf, IsFrame}
 use Rattle.fit_grammar.specs.Format.Message.{Message, message_under, message_at, messages_after, messages_of, time_given}
 use Rattle.fit_grammar.specs.Calls.Table.{in_force_after}
@@ -21,14 +21,15 @@ use Rattle.fit_grammar.proofs.KeptRow.InForce.{in_force-append, in_force-data, i
 use Rattle.fit_grammar.proofs.KeptRow.Lent.{lent_messages, lent_under}
 use Rattle.fit_joining.specs.declared.part.Part.{Part}
 use Rattle.fit_joining.specs.declared.tally.Tally.{Tally}
-use Rattle.fit_joining.specs.Part.{changed, part, stays, tally_after, tally_past}
+use Rattle.fit_joining.specs.Part.{changed, part, stays, tally_after, tally_before, tally_past}
 use Rattle.fit_joining.specs.Timer.{event_at, span_of, start_due, stop_due, timer_message}
 use Rattle.fit_joining.specs.Joined.{first_tally, is_followed, joined_after, joined_messages, joined_one, laps_stay, next_tally}
 use Rattle.fit_joining.specs.Content.{content_changed}
 use Rattle.fit_joining.specs.Events.{event_content, event_definition}
-use Rattle.fit_joining.specs.JoinedItems.{data_changed, event_items, items_after, joined_file, joined_items, one_items, part_items}
+use Rattle.fit_joining.specs.Makers.{Maker, declared_past, no_makers}
+use Rattle.fit_joining.specs.JoinedItems.{data_changed, definition_given, event_items, items_after, joined_file, joined_items, one_items, part_items}
 use Rattle.fit_joining.specs.Private.Row.{IsWhole}
-use Rattle.fit_joining.proofs.ChangedMessage.{message_again, content_length}
+use Rattle.fit_joining.proofs.ChangedMessage.{message_again, content_length, size_given}
 use Rattle.fit_joining.proofs.EventMessage.{event_stated}
 use Rattle.fit_joining.proofs.WrittenRow.{lent_whole}
 
@@ -146,98 +147,109 @@ event_grows before (Some time) type = one_event before time type
 
 -- ---- a part
 
-abbrev AreInForce : (ℕ → Option Definition) → List Item → Type 0
-AreInForce f items = (l : ℕ) (d : Definition) → f l ≡ Some d → in_force items l ≡ Some d
+-- each definition that is in force in the part is so in the row, its developer fields with the indices that are given to them
+abbrev AreInForce : List (Option ℕ) → (ℕ → Option Definition) → List Item → Type 0
+AreInForce given f items = (l : ℕ) (d : Definition) → f l ≡ Some d → in_force items l ≡ Some (definition_given given d)
 
-or_more : (o p q : Option Definition) (d : Definition) → (p ≡ Some d → q ≡ Some d) → option_or o p ≡ Some d → option_or o q ≡ Some d
-or_more None p q d more is = more is
-or_more (Some e) p q d more is = is
+or_more : (given : List (Option ℕ)) (is_own : Bool) (d e : Definition) (p q : Option Definition)
+    → (p ≡ Some e → q ≡ Some (definition_given given e)) → option_or (if is_own then Some d else None) p ≡ Some e
+    → option_or (if is_own then Some (definition_given given d) else None) q ≡ Some (definition_given given e)
+or_more given true d e p q more is = ap (option_map (definition_given given)) is
+or_more given false d e p q more is = more is
 
-defined_on : (f : ℕ → Option Definition) (items : List Item) (d : Definition) → AreInForce f items
-    → AreInForce (in_force_after (Defines d) f) (items ++ Defines d ∷ [])
-defined_on f items d are l e is =
-    in_force-append items (Defines d) l ∙ or_more (definition_by (Defines d) l) (f l) (in_force items l) e (are l e) is
+defined_on : (given : List (Option ℕ)) (f : ℕ → Option Definition) (items : List Item) (d : Definition) → AreInForce given f items
+    → AreInForce given (in_force_after (Defines d) f) (items ++ Defines (definition_given given d) ∷ [])
+defined_on given f items d are l e is =
+    in_force-append items (Defines (definition_given given d)) l ∙ or_more given (d.local == l) d e (f l) (in_force items l) (are l e) is
 
-data_on : (f : ℕ → Option Definition) (items : List Item) (local : ℕ) (content : List ℕ) → AreInForce f items
-    → AreInForce f (items ++ Data local None content ∷ [])
-data_on f items local content are l d is = in_force-data items local None content l ∙ are l d is
+data_on : (given : List (Option ℕ)) (f : ℕ → Option Definition) (items : List Item) (local : ℕ) (content : List ℕ) → AreInForce given f items
+    → AreInForce given f (items ++ Data local None content ∷ [])
+data_on given f items local content are l d is = in_force-data items local None content l ∙ are l d is
 
 -- a data message that stays
-stays_grows : (before : List Item) (t : Tally) (m : LentData) → in_force before m.local ≡ Some m.definition → m.local < 16 → IsWhole (DataHere m)
-    → Grown before (before ++ data_changed t m ∷ []) (changed t (message_here m) ∷ [])
-stays_grows before t m here small whole =
+stays_grows : (given : List (Option ℕ)) (before : List Item) (t : Tally) (m : LentData)
+    → in_force before m.local ≡ Some (definition_given given m.definition) → m.local < 16 → IsWhole (DataHere m)
+    → Grown before (before ++ data_changed given t m ∷ []) (changed given t (message_here m) ∷ [])
+stays_grows given before t m here small whole =
     let d = m.definition in
-    let bytes = content_changed t d.global d.arch d.fields.items m.content in
-    grown_same (data_grows before m.local bytes d here small (whole.2 ∙ sym (content_length t d m.content (omega (arith, whole.2))))) refl
+    let bytes = content_changed given t d.global d.arch d.fields.items m.content in
+    grown_same
+    (data_grows before m.local bytes (definition_given given d) here small
+    (size_given given d ∙ whole.2 ∙ sym (content_length given t d m.content (omega (arith, whole.2))))) refl
     (ap (λ (own : Message). own ∷ [])
-    (message_again t d m.content (omega (arith, whole.2))
-    ∙ ap (λ (time : Option ℕ). changed t (message_under d time m.content)) (sym whole.1)))
+    (message_again given t d m.content (omega (arith, whole.2))
+    ∙ ap (λ (time : Option ℕ). changed given t (message_under d time m.content)) (sym whole.1)))
 
-by_stays : (b : Bool) (before : List Item) (t u : Tally) (own : Item) (left : List LentItem) (message : Message) (messages : List Message)
-    → Grown before (before ++ (own ∷ [] ++ part_items u left)) (message ∷ part u messages)
-    → Grown before (before ++ part_items t left) (part t messages)
-    → Grown before (before ++ ((if b then own ∷ [] else []) ++ part_items (if b then u else t) left))
-    (if b then message ∷ part u messages else part t messages)
-by_stays true before t u own left message messages stay go = stay
-by_stays false before t u own left message messages stay go = go
+by_stays : (given : List (Option ℕ)) (b : Bool) (before : List Item) (t u : Tally) (own : Item) (left : List LentItem) (message : Message)
+    (messages : List Message)
+    → Grown before (before ++ (own ∷ [] ++ part_items given u left)) (message ∷ part given u messages)
+    → Grown before (before ++ part_items given t left) (part given t messages)
+    → Grown before (before ++ ((if b then own ∷ [] else []) ++ part_items given (if b then u else t) left))
+    (if b then message ∷ part given u messages else part given t messages)
+by_stays given true before t u own left message messages stay go = stay
+by_stays given false before t u own left message messages stay go = go
 
-items_grow : (f : ℕ → Option Definition) (before : List Item) (t : Tally) (left : List LentItem) → AllUnder f left → AreInForce f before
-    → AllByRecursion IsWhole left → Grown before (before ++ part_items t left) (part t (messages_in left))
-items_grow f before t [] under are whole = grown_same (grown_none before) (sym (append-nil before)) refl
-items_grow f before t (DefinesHere d ∷ left) under are whole =
+items_grow : (given : List (Option ℕ)) (f : ℕ → Option Definition) (before : List Item) (t : Tally) (left : List LentItem) → AllUnder f left
+    → AreInForce given f before → AllByRecursion IsWhole left
+    → Grown before (before ++ part_items given t left) (part given t (messages_in left))
+items_grow given f before t [] under are whole = grown_same (grown_none before) (sym (append-nil before)) refl
+items_grow given f before t (DefinesHere d ∷ left) under are whole =
+    let own = Defines (definition_given given d) in
     grown_same
-    (grown_then (define_grows before d under.0)
-    (items_grow (in_force_after (Defines d) f) (before ++ Defines d ∷ []) t left under.1 (defined_on f before d are) whole.1))
-    (append_assoc before (Defines d ∷ []) (part_items t left)) refl
-items_grow f before t (DataHere m ∷ left) under are whole =
-    let own = data_changed t m in
+    (grown_then (define_grows before (definition_given given d) under.0)
+    (items_grow given (in_force_after (Defines d) f) (before ++ own ∷ []) t left under.1 (defined_on given f before d are) whole.1))
+    (append_assoc before (own ∷ []) (part_items given t left)) refl
+items_grow given f before t (DataHere m ∷ left) under are whole =
+    let own = data_changed given t m in
     let u = tally_after t (message_here m) in
-    let bytes = content_changed t m.definition.global m.definition.arch m.definition.fields.items m.content in
-    by_stays (stays t (message_here m)) before t u own left (changed t (message_here m)) (messages_in left)
+    let bytes = content_changed given t m.definition.global m.definition.arch m.definition.fields.items m.content in
+    by_stays given (stays t (message_here m)) before t u own left (changed given t (message_here m)) (messages_in left)
     (grown_same
-    (grown_then (stays_grows before t m (are m.local m.definition under.1) under.0 whole.0)
-    (items_grow f (before ++ own ∷ []) u left under.2 (data_on f before m.local bytes are) whole.1))
-    (append_assoc before (own ∷ []) (part_items u left)) refl)
-    (items_grow f before t left under.2 are whole.1)
+    (grown_then (stays_grows given before t m (are m.local m.definition under.1) under.0 whole.0)
+    (items_grow given f (before ++ own ∷ []) u left under.2 (data_on given f before m.local bytes are) whole.1))
+    (append_assoc before (own ∷ []) (part_items given u left)) refl)
+    (items_grow given f before t left under.2 are whole.1)
 
-part_grows : (before : List Item) (t : Tally) (v : FileValue) → CanBeFile v → AllByRecursion IsPlain v.items
-    → Grown before (before ++ part_items t (items_lent v.items)) (part t (messages_of v.items))
-part_grows before t v can plain =
+part_grows : (given : List (Option ℕ)) (before : List Item) (t : Tally) (v : FileValue) → CanBeFile v → AllByRecursion IsPlain v.items
+    → Grown before (before ++ part_items given t (items_lent v.items)) (part given t (messages_of v.items))
+part_grows given before t v can plain =
     grown_same
-    (items_grow (in_force []) before t (items_lent v.items) (lent_under [] 0 v.items can.items_follow) (λ l d is. absurd (none-some d is))
-    (lent_whole [] 0 v.items can.items_follow plain))
-    refl (ap (part t) (lent_messages [] 0 v.items))
+    (items_grow given (in_force []) before t (items_lent v.items) (lent_under [] 0 v.items can.items_follow)
+    (λ l d is. absurd (none-some d is)) (lent_whole [] 0 v.items can.items_follow plain))
+    refl (ap (part given t) (lent_messages [] 0 v.items))
 
 -- ---- all parts
 
-one_grows : (before : List Item) (t : Tally) (followed : Bool) (v : FileValue) → CanBeFile v → AllByRecursion IsPlain v.items
-    → Grown before (before ++ one_items t followed v.items) (joined_one t followed (messages_of v.items))
-one_grows before t followed v can plain =
+one_grows : (given : List (Option ℕ)) (before : List Item) (t : Tally) (followed : Bool) (v : FileValue) → CanBeFile v
+    → AllByRecursion IsPlain v.items → Grown before (before ++ one_items given t followed v.items) (joined_one given t followed (messages_of v.items))
+one_grows given before t followed v can plain =
     let span = span_of t.keeps_laps (messages_of v.items) in
     let start = event_items (start_due t.follows span) 0 in
-    let own = part_items t (items_lent v.items) in
+    let own = part_items given t (items_lent v.items) in
     let stop = event_items (stop_due followed span) 4 in
     grown_same
     (grown_then (event_grows before (start_due t.follows span) 0)
-    (grown_then (part_grows (before ++ start) t v can plain) (event_grows ((before ++ start) ++ own) (stop_due followed span) 4)))
+    (grown_then (part_grows given (before ++ start) t v can plain) (event_grows ((before ++ start) ++ own) (stop_due followed span) 4)))
     (append_assoc (before ++ start) own stop ∙ append_assoc before start (own ++ stop)) refl
 
-all_grow : (before : List Item) (t : Tally) (parts : List Part) → AllByRecursion (λ p. CanBeFile p.file) parts
+all_grow : (makers : List (Option Maker)) (before : List Item) (t : Tally) (parts : List Part) → AllByRecursion (λ p. CanBeFile p.file) parts
     → AllByRecursion (λ p. AllByRecursion IsPlain p.file.items) parts
-    → Grown before (before ++ items_after t parts) (joined_after t (map (λ p. messages_of p.file.items) parts))
-all_grow before t [] can plain = grown_same (grown_none before) (sym (append-nil before)) refl
-all_grow before t (p ∷ parts) can plain =
+    → Grown before (before ++ items_after makers t parts) (joined_after makers t (map (λ p. messages_of p.file.items) parts))
+all_grow makers before t [] can plain = grown_same (grown_none before) (sym (append-nil before)) refl
+all_grow makers before t (p ∷ parts) can plain =
     let followed = is_followed (map (λ q. messages_of q.file.items) parts) in
-    let own = one_items t followed p.file.items in
-    let next = next_tally (tally_past t (messages_of p.file.items)) in
+    let past = declared_past makers (messages_of p.file.items) in
+    let u = tally_before t (messages_of p.file.items) in
+    let own = one_items past.given u followed p.file.items in
+    let next = next_tally (tally_past u (messages_of p.file.items)) in
     grown_same
-    (grown_then (one_grows before t followed p.file can.0 plain.0) (all_grow (before ++ own) next parts can.1 plain.1))
-    (append_assoc before own (items_after next parts)) refl
+    (grown_then (one_grows past.given before u followed p.file can.0 plain.0) (all_grow past.makers (before ++ own) next parts can.1 plain.1))
+    (append_assoc before own (items_after past.makers next parts)) refl
 
 joined_grows : (parts : List Part) → AllByRecursion (λ p. CanBeFile p.file) parts
     → AllByRecursion (λ p. AllByRecursion IsPlain p.file.items) parts
     → Grown [] (joined_items parts) (joined_messages (map (λ p. messages_of p.file.items) parts))
-joined_grows parts can plain = all_grow [] (first_tally (laps_stay (map (λ p. messages_of p.file.items) parts))) parts can plain
+joined_grows parts can plain = all_grow no_makers [] (first_tally (laps_stay (map (λ p. messages_of p.file.items) parts))) parts can plain
 
 -- of the joined file
 

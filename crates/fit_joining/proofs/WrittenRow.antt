@@ -56,49 +56,49 @@ counts_on t (DataHere m) left = counts_by (stays t (message_here m)) t (tally_af
 -- ---- the part as it is written
 
 -- before the first item
-pub part_begins : (o : Option (List ℕ)) (before : ℕ) (v : FileValue) (t : Tally) (left : List LentItem) → CanBeFile v
+pub part_begins : (given : List (Option ℕ)) (o : Option (List ℕ)) (before : ℕ) (v : FileValue) (t : Tally) (left : List LentItem) → CanBeFile v
     → AllByRecursion IsPlain v.items → left ≡ items_lent v.items → messages_in left ≡ messages_of v.items
-    → LeavesPart o o before before (encoded_items (part_items t (items_lent v.items))) (tally_past t (messages_of v.items)) t left
-part_begins o before v t left can plain all same = record {
+    → LeavesPart o o before before (encoded_items (part_items given t (items_lent v.items))) (tally_past t (messages_of v.items)) t given left
+part_begins given o before v t left can plain all same = record {
   whole = rw all (lent_whole [] 0 v.items can.items_follow plain);
   counts = ap (tally_past t) same;
-  leaves = leaves_all o before (encoded_items (part_items t (items_lent v.items))) (encoded_items (part_items t left))
-      (ap (λ (l : List LentItem). encoded_items (part_items t l)) (sym all));
+  leaves = leaves_all o before (encoded_items (part_items given t (items_lent v.items))) (encoded_items (part_items given t left))
+      (ap (λ (l : List LentItem). encoded_items (part_items given t l)) (sym all));
 }
 
-pieces : (t : Tally) (item : LentItem) (left : List LentItem)
-    → encoded_items (part_items t (item ∷ left)) ≡ encoded_items (item_joined t item) ++ encoded_items (part_items (counted t item) left)
-pieces t item left = flat_map-append encoded_item (item_joined t item) (part_items (counted t item) left)
+pieces : (given : List (Option ℕ)) (t : Tally) (item : LentItem) (left : List LentItem)
+    → encoded_items (part_items given t (item ∷ left)) ≡ encoded_items (item_joined given t item) ++ encoded_items (part_items given (counted t item) left)
+pieces given t item left = flat_map-append encoded_item (item_joined given t item) (part_items given (counted t item) left)
 
 -- after the next item
-pub part_goes_on : {E : Type 0} (o m n : Option (List ℕ)) (before middle after : ℕ) (text : List ℕ) (past t u : Tally) (item : LentItem)
-    (left : List LentItem) → LeavesPart o m before middle text past t (item ∷ left)
-    → WritesChecked {T = Tally} {E = E} m n middle after (Ok u) (encoded_items (item_joined t item)) → u ≡ counted t item
-    → LeavesPart o n before after text past u left
-part_goes_on o m n before middle after text past t u item left s written is =
+pub part_goes_on : {E : Type 0} (given : List (Option ℕ)) (o m n : Option (List ℕ)) (before middle after : ℕ) (text : List ℕ) (past t u : Tally) (item : LentItem)
+    (left : List LentItem) → LeavesPart o m before middle text past t given (item ∷ left)
+    → WritesChecked {T = Tally} {E = E} m n middle after (Ok u) (encoded_items (item_joined given t item)) → u ≡ counted t item
+    → LeavesPart o n before after text past u given left
+part_goes_on given o m n before middle after text past t u item left s written is =
     let whole = s.whole in
     record {
       whole = whole.1;
       counts = ap (λ (k : Tally). tally_past k (messages_in left)) is ∙ counts_on t item left ∙ s.counts;
-      leaves = leaves_next (encoded_items (part_items u left)) s.leaves written
-          (pieces t item left ∙ ap (λ (k : Tally). encoded_items (item_joined t item) ++ encoded_items (part_items k left)) (sym is));
+      leaves = leaves_next (encoded_items (part_items given u left)) s.leaves written
+          (pieces given t item left ∙ ap (λ (k : Tally). encoded_items (item_joined given t item) ++ encoded_items (part_items given k left)) (sym is));
     }
 
 -- or if it was not written
-pub part_off : {T E F : Type 0} {r : Result T F} {e : E} (o m n : Option (List ℕ)) (before middle at after : ℕ) (text : List ℕ) (past t : Tally)
-    (item : LentItem) (left : List LentItem) → IsErr r → LeavesPart o m before middle text past t (item ∷ left)
-    → WritesChecked {T = Tally} {E = E} m n middle at (Err e) (encoded_items (item_joined t item))
+pub part_off : {T E F : Type 0} {r : Result T F} {e : E} (given : List (Option ℕ)) (o m n : Option (List ℕ)) (before middle at after : ℕ) (text : List ℕ) (past t : Tally)
+    (item : LentItem) (left : List LentItem) → IsErr r → LeavesPart o m before middle text past t given (item ∷ left)
+    → WritesChecked {T = Tally} {E = E} m n middle at (Err e) (encoded_items (item_joined given t item))
     → WritesChecked o n before after r text
-part_off o m n before middle at after text past t item left bad s written =
-    leaves_off after (encoded_items (part_items (counted t item) left)) bad s.leaves written (pieces t item left)
+part_off given o m n before middle at after text past t item left bad s written =
+    leaves_off after (encoded_items (part_items given (counted t item) left)) bad s.leaves written (pieces given t item left)
 
 -- at the end
-pub part_ends : {E : Type 0} (o n : Option (List ℕ)) (before after : ℕ) (text : List ℕ) (past t : Tally) (left : List LentItem)
-    → left ≡ [] → LeavesPart o n before after text past t left → WritesChecked {T = Tally} {E = E} o n before after (Ok t) text
-part_ends o n before after text past t left none s =
-    leaves_none t (ap (λ (l : List LentItem). encoded_items (part_items t l)) none) s.leaves
+pub part_ends : {E : Type 0} (given : List (Option ℕ)) (o n : Option (List ℕ)) (before after : ℕ) (text : List ℕ) (past t : Tally) (left : List LentItem)
+    → left ≡ [] → LeavesPart o n before after text past t given left → WritesChecked {T = Tally} {E = E} o n before after (Ok t) text
+part_ends given o n before after text past t left none s =
+    leaves_none t (ap (λ (l : List LentItem). encoded_items (part_items given t l)) none) s.leaves
 
-pub part_counted : (o n : Option (List ℕ)) (before after : ℕ) (text : List ℕ) (past t : Tally) (left : List LentItem)
-    → left ≡ [] → LeavesPart o n before after text past t left → t ≡ past
-part_counted o n before after text past t left none s =
+pub part_counted : (given : List (Option ℕ)) (o n : Option (List ℕ)) (before after : ℕ) (text : List ℕ) (past t : Tally) (left : List LentItem)
+    → left ≡ [] → LeavesPart o n before after text past t given left → t ≡ past
+part_counted given o n before after text past t left none s =
     ap (λ (l : List LentItem). tally_past t (messages_in l)) (sym none) ∙ s.counts

@@ -1,7 +1,7 @@
 -- What is compared of the parts of an activity: their sports and their times.
-use Rattle.std.specs.Prelude.{ℕ, Bool, true, false, not, List, [], ◌∷◌, max, Option, Some, None, ◌==◌, nat_lt, if◌then◌else◌}
+use Rattle.std.specs.Prelude.{ℕ, ◌+◌, Bool, true, false, not, List, [], ◌∷◌, max, Option, Some, None, ◌==◌, nat_lt, if◌then◌else◌}
 use Rattle.std.specs.Option.{option_or}
-use Rattle.fit_grammar.specs.Format.Message.{messages_of}
+use Rattle.fit_grammar.specs.Format.Message.{Message, messages_of}
 use Rattle.fit_finishing.specs.Heard.{first_sport}
 use Rattle.fit_joining.specs.declared.misfit.Misfit.{Misfit}
 use Rattle.fit_joining.specs.declared.misfit.MisfitKind.{MisfitKind}
@@ -13,8 +13,11 @@ use Rattle.fit_joining.specs.Timer.{span_of}
 -- ---- what a part states
 
 -- the time of its first record, event or lap, and that of its last one
+abbrev pub first_time_of : List Message → Option ℕ
+first_time_of messages = (span_of true messages).first
+
 abbrev pub first_time : Part → Option ℕ
-first_time part = (span_of true (messages_of part.file.items)).first
+first_time part = first_time_of (messages_of part.file.items)
 
 abbrev pub last_time : Part → Option ℕ
 last_time part = (span_of true (messages_of part.file.items)).last
@@ -58,16 +61,16 @@ misfit_by s sport first =
     else if is_before first s.last then Some Overlap
     else None
 
-abbrev pub misfit_named : Part → Option MisfitKind → Option Misfit
-misfit_named part None = None
-misfit_named part (Some kind) = Some (record { name = part.name; kind = kind })
+abbrev pub misfit_named : Part → ℕ → Option MisfitKind → Option Misfit
+misfit_named part number None = None
+misfit_named part number (Some kind) = Some (record { name = part.name; number = number; kind = kind })
 
--- the first of these parts that does not go with those before it, of which the ones before these state `s`
-abbrev pub misfit_after : Stated → List Part → Option Misfit
-misfit_after s [] = None
-misfit_after s (part ∷ parts) =
-    option_or (misfit_named part (misfit_by s (sport_of part) (first_time part)))
-    (misfit_after (stated_after s part) parts)
+-- the first of these parts that does not go with those before it, which are so many and state `s`
+abbrev pub misfit_after : Stated → ℕ → List Part → Option Misfit
+misfit_after s number [] = None
+misfit_after s number (part ∷ parts) =
+    option_or (misfit_named part number (misfit_by s (sport_of part) (first_time part)))
+    (misfit_after (stated_after s part) (number + 1) parts)
 
 abbrev pub first_misfit : List Part → Option Misfit
-first_misfit parts = misfit_after nothing_stated parts
+first_misfit parts = misfit_after nothing_stated 0 parts

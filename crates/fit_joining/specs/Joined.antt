@@ -1,9 +1,10 @@
 -- The messages of several parts as one activity.
-use Rattle.std.specs.Prelude.{Bool, true, false, List, [], ◌∷◌, ◌++◌, ◌==◌, ◌&&◌, ◌||◌}
+use Rattle.std.specs.Prelude.{ℕ, Bool, true, false, List, [], ◌∷◌, ◌++◌, Option, ◌==◌, ◌&&◌, ◌||◌}
 use Rattle.std.specs.List.{list_any}
 use Rattle.fit_grammar.specs.Format.Message.{Message}
 use Rattle.fit_joining.specs.declared.tally.Tally.{Tally}
-use Rattle.fit_joining.specs.Part.{part, tally_past}
+use Rattle.fit_joining.specs.Makers.{Maker, declared_past, no_makers}
+use Rattle.fit_joining.specs.Part.{part, tally_before, tally_past}
 use Rattle.fit_joining.specs.Timer.{event_at, span_of, start_due, stop_due}
 
 -- ---- whether laps stay
@@ -37,16 +38,18 @@ is_followed [] = false
 is_followed (next ∷ parts) = true
 
 -- A part: its messages, with the timer started before them and stopped after them where it stood between two parts.
-abbrev pub joined_one : Tally → Bool → List Message → List Message
-joined_one t followed own =
+abbrev pub joined_one : List (Option ℕ) → Tally → Bool → List Message → List Message
+joined_one given t followed own =
     event_at (start_due t.follows (span_of t.keeps_laps own)) 0
-    ++ (part t own ++ event_at (stop_due followed (span_of t.keeps_laps own)) 4)
+    ++ (part given t own ++ event_at (stop_due followed (span_of t.keeps_laps own)) 4)
 
--- the messages of each part in turn
-abbrev pub joined_after : Tally → List (List Message) → List Message
-joined_after t [] = []
-joined_after t (own ∷ parts) =
-    joined_one t (is_followed parts) own ++ joined_after (next_tally (tally_past t own)) parts
+-- The messages of each part in turn. Its developer data has the indices that are given to it after the parts before it, whose makers are
+-- `makers`.
+abbrev pub joined_after : List (Option Maker) → Tally → List (List Message) → List Message
+joined_after makers t [] = []
+joined_after makers t (own ∷ parts) =
+    joined_one (declared_past makers own).given (tally_before t own) (is_followed parts) own
+    ++ joined_after (declared_past makers own).makers (next_tally (tally_past (tally_before t own) own)) parts
 
 abbrev pub joined_messages : List (List Message) → List Message
-joined_messages parts = joined_after (first_tally (laps_stay parts)) parts
+joined_messages parts = joined_after no_makers (first_tally (laps_stay parts)) parts

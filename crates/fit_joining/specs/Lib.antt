@@ -1,3 +1,4 @@
+pub mod Makers
 pub mod Part
 pub mod Timer
 pub mod Joined

@@ -1,6 +1,6 @@
 // The first part that does not go with those before it.
 
-ghost use Rattle.std.specs.Prelude.{◌≡◌};
+ghost use Rattle.std.specs.Prelude.{◌≡◌, ◌<◌, length, IfSome};
 ghost use Rattle.fit_grammar.specs.Format.Message.{messages_of};
 ghost use Rattle.fit_joining.specs.Compared.{first_misfit, is_before, is_other, later, misfit_by, stated_by};
 
@@ -13,6 +13,8 @@ use fit_finishing::first_sport;
 pub struct Misfit<'a> {
     /// The name of the part.
     pub name: &'a str,
+    /// How many parts are before it.
+    pub number: usize,
     pub kind: MisfitKind,
 }
 
@@ -28,12 +30,15 @@ pub enum MisfitKind {
 /// The first part that has another sport than those before it, or begins before one of them ends. A part without a sport or a time is
 /// compared by what it has.
 pub fn first_misfit<'n>(parts: &[Part<'n, '_>]) -> Option<Misfit<'n>>
-    ensures { result ≡ first_misfit parts.now }
+    ensures misfit { result ≡ first_misfit parts.now }
+    // It is one of them.
+    ensures number { IfSome result (λ misfit. misfit.number < length parts.now) }
 {
     let mut stated = Stated {
         sport: None,
         last: None,
     };
+    let mut number = 0;
     let mut rest = parts;
     while let [part, more @ ..] = rest {
         let sport = first_sport(&part.file);
@@ -41,10 +46,12 @@ pub fn first_misfit<'n>(parts: &[Part<'n, '_>]) -> Option<Misfit<'n>>
         if let Some(kind) = stated.misfit(sport, span.first) {
             return Some(Misfit {
                 name: part.name,
+                number,
                 kind,
             });
         }
         stated = stated.and(sport, span.last);
+        number += 1;
         rest = more;
     }
     None

@@ -38,6 +38,23 @@ impl<'a> Model for LentFile<'a> {
     ghost invariant = { IsLent };
 }
 
+impl Default for LentFile<'_> {
+    ghost is_default = { λ file. file.items ≡ [] };
+
+    /// A file without items.
+    fn default() -> Self {
+        LentFile {
+            frame: Frame {
+                header_size: 14,
+                protocol: 0x10,
+                profile: 0,
+            },
+            records: &[],
+            size: 0,
+        }
+    }
+}
+
 impl<'a> LentFile<'a> {
     /// Reads a whole file where it is, in one pass over its items and one for the checksum. Bytes are judged in their order: the
     /// fault is the one that the shortest faulty prefix shows, as `decode_file` finds it. It is never `Memory`.

@@ -28,7 +28,7 @@ pub record LeavesChecked (old now : Option (List ℕ)) (before after : ℕ) (tex
 
 -- the part was written up to the items `left`, and what is counted after all of it is `past`
 pub record LeavesPart (old now : Option (List ℕ)) (before after : ℕ) (text : List ℕ) (past tally : Tally)
-    (left : List LentItem) : Type 0 where
+    (given : List (Option ℕ)) (left : List LentItem) : Type 0 where
   pub whole : AllByRecursion IsWhole left
   pub counts : tally_past tally (messages_in left) ≡ past
-  pub leaves : LeavesChecked old now before after text (encoded_items (part_items tally left))
+  pub leaves : LeavesChecked old now before after text (encoded_items (part_items given tally left))

@@ -1,46 +1,26 @@
-use Rattle.std.proofs.Common.{rules, ◌≡◌, ℕ, ◌-◌, ◌<◌, ◌≤◌, List, [], ◌∷◌, ◌++◌, length, get_or, take, drop, refl, sym, ap, ◌∙◌, arith}
-use Rattle.std.specs.Prelude.{sum_by}
-use Rattle.std.proofs.lemmas.List.{length-drop, take_all}
-use Rattle.std.proofs.lemmas.List.Sums.{sum_by-cons}
+use Rattle.std.proofs.Common.{rules, ◌≡◌, ℕ, ◌-◌, ◌<◌, List, [], ◌∷◌, ◌++◌, length, Option, take, drop, refl, sym, ap, ◌∙◌, arith}
 use Rattle.fit_base.specs.declared.order.Arch.{Arch}
 use Rattle.fit_grammar.specs.declared.definition.FieldDefinition.{FieldDefinition}
 use Rattle.fit_grammar.proofs.Encoder.Checked.{checked_same}
 use Rattle.fit_joining.specs.declared.tally.Tally.{Tally}
 use Rattle.fit_joining.specs.Content.{field_changed, content_changed}
+use Rattle.fit_joining.proofs.FieldsLeft.{split, fields_within}
 use Rattle.fit_joining.proofs.Leaves.{leaves_all, leaves_next, leaves_off, leaves_last}
 use Rattle.fit_joining.proofs.content.put_content.Goals as goal
 
--- a field and those after it
-split : (fields : List FieldDefinition) (any : FieldDefinition) → 1 ≤ length fields
-    → fields ≡ get_or fields 0 any ∷ take (length fields - 1) (drop 1 fields)
-split [] any some = absurd (omega arith)
-split (field ∷ fields) any some =
-    ap (λ (others : List FieldDefinition). field ∷ others) (sym (take_all (length (field ∷ fields) - 1) fields (omega arith)))
-
-fields_next : (t : Tally) (message : ℕ) (arch : Arch) (fields others : List FieldDefinition) (field : FieldDefinition) (content own after : List ℕ)
+fields_next : (given : List (Option ℕ)) (t : Tally) (message : ℕ) (arch : Arch) (fields others : List FieldDefinition) (field : FieldDefinition) (content own after : List ℕ)
     → fields ≡ field ∷ others → own ≡ take field.size content → after ≡ drop field.size content
-    → content_changed t message arch fields content ≡ field_changed t message arch field own ++ content_changed t message arch others after
-fields_next t message arch fields others field content own after is own_is after_is =
-    ap (λ (fs : List FieldDefinition). content_changed t message arch fs content) is
-    ∙ ap (λ (bytes : List ℕ). field_changed t message arch field bytes ++ content_changed t message arch others (drop field.size content)) (sym own_is)
-    ∙ ap (λ (bytes : List ℕ). field_changed t message arch field own ++ content_changed t message arch others bytes) (sym after_is)
+    → content_changed given t message arch fields content
+    ≡ field_changed given t message arch field own ++ content_changed given t message arch others after
+fields_next given t message arch fields others field content own after is own_is after_is =
+    ap (λ (fs : List FieldDefinition). content_changed given t message arch fs content) is
+    ∙ ap (λ (bytes : List ℕ). field_changed given t message arch field bytes ++ content_changed given t message arch others (drop field.size content)) (sym own_is)
+    ∙ ap (λ (bytes : List ℕ). field_changed given t message arch field own ++ content_changed given t message arch others bytes) (sym after_is)
 
-fields_within : (fields others : List FieldDefinition) (field : FieldDefinition) (content after : List ℕ) → fields ≡ field ∷ others
-    → after ≡ drop field.size content → sum_by (λ f. f.size) fields ≤ length content → sum_by (λ f. f.size) others ≤ length after
-fields_within fields others field content after is after_is within =
-    omega (
-      arith,
-      within,
-      ap (λ (fs : List FieldDefinition). sum_by (λ f. f.size) fs) is,
-      sum_by-cons (λ f. f.size) field others,
-      ap length after_is,
-      length-drop field.size content,
-    )
-
-none_left : (t : Tally) (message : ℕ) (arch : Arch) (fields : List FieldDefinition) (content : List ℕ) → length fields < 1
-    → content_changed t message arch fields content ≡ content
-none_left t message arch [] content none = refl
-none_left t message arch (field ∷ fields) content none = absurd (omega (arith, none))
+none_left : (given : List (Option ℕ)) (t : Tally) (message : ℕ) (arch : Arch) (fields : List FieldDefinition) (content : List ℕ) → length fields < 1
+    → content_changed given t message arch fields content ≡ content
+none_left given t message arch [] content none = refl
+none_left given t message arch (field ∷ fields) content none = absurd (omega (arith, none))
 
 pub loop-fields-init : goal.loop-fields-init
 loop-fields-init g c = record {
@@ -53,9 +33,9 @@ returns-in_err-put_field g c =
     let d = c.args.definition.now in
     let left = c.loop-fields.fields.now in
     leaves_off c.put_field.new.checksum
-    (content_changed c.args.tally d.global d.arch (take (length left - 1) (drop 1 left)) c.split_at.result.1.now) c.from_residual.ensures.0
+    (content_changed c.args.given.now c.args.tally d.global d.arch (take (length left - 1) (drop 1 left)) c.split_at.result.1.now) c.from_residual.ensures.0
     c.loop-fields.invariant.so_far c.in_err-put_field.ensures
-    (fields_next c.args.tally d.global d.arch left _ _ c.loop-fields.rest.now _ _ (split left _ c.in-len1-up.len_at_least) c.split_at.ensures.front
+    (fields_next c.args.given.now c.args.tally d.global d.arch left _ _ c.loop-fields.rest.now _ _ (split left _ c.in-len1-up.len_at_least) c.split_at.ensures.front
     c.split_at.ensures.back)
 
 pub loop-fields-preserved : goal.loop-fields-preserved
@@ -66,7 +46,7 @@ loop-fields-preserved g c =
       within = fields_within left _ _ c.loop-fields.rest.now _ (split left _ c.in-len1-up.len_at_least) c.split_at.ensures.back
           c.loop-fields.invariant.within;
       so_far = leaves_next _ c.loop-fields.invariant.so_far c.in_ok-put_field.ensures
-          (fields_next c.args.tally d.global d.arch left _ _ c.loop-fields.rest.now _ _ (split left _ c.in-len1-up.len_at_least)
+          (fields_next c.args.given.now c.args.tally d.global d.arch left _ _ c.loop-fields.rest.now _ _ (split left _ c.in-len1-up.len_at_least)
           c.split_at.ensures.front c.split_at.ensures.back);
     }
 
@@ -75,4 +55,4 @@ returns g c =
     let d = c.args.definition.now in
     leaves_last c.loop-fields.invariant.so_far
     (checked_same c.put_checked.ensures
-    (sym (none_left c.args.tally d.global d.arch c.loop-fields.fields.now c.loop-fields.rest.now c.in_default.len_below)))
+    (sym (none_left c.args.given.now c.args.tally d.global d.arch c.loop-fields.fields.now c.loop-fields.rest.now c.in_default.len_below)))

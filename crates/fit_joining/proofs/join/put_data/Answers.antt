@@ -18,4 +18,4 @@ returns-in_default-clause-text g c =
       | in_default-via-in_default w ↦ search rules
     ] in
     checked_same (checked_none _ c.args.checksum.now c.args.tally)
-    (ap (λ (b : Bool). encoded_items (if b then data_changed c.args.tally m ∷ [] else [])) (sym gone))
+    (ap (λ (b : Bool). encoded_items (if b then data_changed c.args.given.now c.args.tally m ∷ [] else [])) (sym gone))

@@ -16,11 +16,11 @@ abbrev event_bytes : Option ℕ → ℕ → List ℕ
 event_bytes time type = encoded_items (event_items time type)
 
 -- the pieces that are written one after another
-pieces : (t : Tally) (followed : Bool) (items : List Item) (span : Span) (start stop : Option ℕ) → span ≡ span_of t.keeps_laps (messages_of items)
+pieces : (given : List (Option ℕ)) (t : Tally) (followed : Bool) (items : List Item) (span : Span) (start stop : Option ℕ) → span ≡ span_of t.keeps_laps (messages_of items)
     → start ≡ start_due t.follows span → stop ≡ stop_due followed span
-    → event_bytes start 0 ++ (encoded_items (part_items t (items_lent items)) ++ event_bytes stop 4) ≡ encoded_items (one_items t followed items)
-pieces t followed items span start stop span_is start_is stop_is =
-    let own = part_items t (items_lent items) in
+    → event_bytes start 0 ++ (encoded_items (part_items given t (items_lent items)) ++ event_bytes stop 4) ≡ encoded_items (one_items given t followed items)
+pieces given t followed items span start stop span_is start_is stop_is =
+    let own = part_items given t (items_lent items) in
     let all = span_of t.keeps_laps (messages_of items) in
     let first = event_items (start_due t.follows all) 0 in
     let last = event_items (stop_due followed all) 4 in
@@ -35,8 +35,8 @@ returns-in_err-put_event_at-clause-text g c =
     let items = c.args.part.now.items in
     checked_same
     (stops_checked c.from_residual.ensures.0 c.in_err-put_event_at.ensures _
-    (encoded_items (part_items t (items_lent items)) ++ event_bytes (stop_due c.args.is_followed c.span_of-span.result) 4))
-    (pieces t c.args.is_followed items c.span_of-span.result _ _ c.span_of-span.ensures c.start_due.ensures refl)
+    (encoded_items (part_items c.args.given.now t (items_lent items)) ++ event_bytes (stop_due c.args.is_followed c.span_of-span.result) 4))
+    (pieces c.args.given.now t c.args.is_followed items c.span_of-span.result _ _ c.span_of-span.ensures c.start_due.ensures refl)
 
 pub returns-in_err-past-clause-text : goal.returns-in_err-past-clause-text
 returns-in_err-past-clause-text g c =
@@ -46,24 +46,24 @@ returns-in_err-past-clause-text g c =
     (then_checked c.in_ok-put_event_at.ensures
     (stops_checked c.from_residual-in_err-past.ensures.0 c.in_err-past.ensures.text _
     (event_bytes (stop_due c.args.is_followed c.span_of-span.result) 4)))
-    (pieces t c.args.is_followed items c.span_of-span.result _ _ c.span_of-span.ensures c.start_due.ensures refl)
+    (pieces c.args.given.now t c.args.is_followed items c.span_of-span.result _ _ c.span_of-span.ensures c.start_due.ensures refl)
 
 pub returns-in_err-put_event_at-2-clause-text : goal.returns-in_err-put_event_at-2-clause-text
 returns-in_err-put_event_at-2-clause-text g c =
     let t = c.args.tally in
     let items = c.args.part.now.items in
-    let own = encoded_items (part_items t (items_lent items)) in
+    let own = encoded_items (part_items c.args.given.now t (items_lent items)) in
     let start = event_bytes c.start_due.result 0 in
     let stop = event_bytes c.stop_due.result 4 in
     checked_same
     (then_checked c.in_ok-put_event_at.ensures
     (then_checked c.in_ok-past.ensures.text (stops_checked c.from_residual-in_err-put_event_at-2.ensures.0 c.in_err-put_event_at-2.ensures _ [])))
     (ap (λ (l : List ℕ). start ++ (own ++ l)) (append-nil stop)
-    ∙ pieces t c.args.is_followed items c.span_of-span.result _ _ c.span_of-span.ensures c.start_due.ensures c.stop_due.ensures)
+    ∙ pieces c.args.given.now t c.args.is_followed items c.span_of-span.result _ _ c.span_of-span.ensures c.start_due.ensures c.stop_due.ensures)
 
 pub returns-clause-text : goal.returns-clause-text
 returns-clause-text g c =
     let t = c.args.tally in
     let items = c.args.part.now.items in
     checked_same (checked_ok (then_checked c.in_ok-put_event_at.ensures (then_checked c.in_ok-past.ensures.text c.in_ok-put_event_at-2.ensures)))
-    (pieces t c.args.is_followed items c.span_of-span.result _ _ c.span_of-span.ensures c.start_due.ensures c.stop_due.ensures)
+    (pieces c.args.given.now t c.args.is_followed items c.span_of-span.result _ _ c.span_of-span.ensures c.start_due.ensures c.stop_due.ensures)

@@ -9,5 +9,5 @@ use Rattle.fit_joining.proofs.join.put_part.Given as goal
 abbrev pub invariant-loop-item : goal.invariant-loop-item
 invariant-loop-item g l =
     LeavesPart (g.S.Sink.held l.initial.out) (g.S.Sink.held l.out) l.initial.checksum l.checksum
-    (encoded_items (part_items l.fn.first (items_lent l.fn.part.items))) (tally_past l.fn.first (messages_of l.fn.part.items)) l.tally
-    l.item-iterator
+    (encoded_items (part_items l.fn.given l.fn.first (items_lent l.fn.part.items))) (tally_past l.fn.first (messages_of l.fn.part.items)) l.tally
+    l.fn.given l.item-iterator

@@ -12,7 +12,7 @@ invariant-loop-rest g l = record {
   plain : AllByRecursion (λ part. AllByRecursion IsPlain part.file.items) l.rest;
   possible : AllByRecursion (λ part. CanBeFile part.file) l.rest → AllByRecursion (λ part. CanBeFile part.file) (l.fn.first ∷ l.fn.others);
   so_far : LeavesChecked (g.S.Sink.held l.fn.out) (g.S.Sink.held l.out) l.fn.checksum l.checksum
-      (encoded_items (joined_items (l.fn.first ∷ l.fn.others))) (encoded_items (items_after l.now l.rest));
+      (encoded_items (joined_items (l.fn.first ∷ l.fn.others))) (encoded_items (items_after l.makers l.now l.rest));
 }
 
 abbrev pub decreases-loop-rest : goal.decreases-loop-rest
