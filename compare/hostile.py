@@ -181,7 +181,7 @@ JUDGED = {
     "records at one time": RECORD_AT[-5:],
 }
 # The most instructions for each byte that a salvage judges.
-OF_SALVAGE = 4000
+OF_SALVAGE = 16000
 
 
 def of_a_salvage(given):

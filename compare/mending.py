@@ -20,7 +20,7 @@ from typing import NamedTuple
 from tools.checks import Skipped, differs, unless
 from tools.finished import finished
 from tools.fit_files import framed, image, short
-from tools.holes import CLUSTERS, CONTENTS, KINDS, SIZES, TAIL, hole, items, messages, numbers, older, other_cluster, touches
+from tools.holes import CLUSTERS, CONTENTS, KINDS, SIZES, TAIL, global_number, hole, items, messages, numbers, older, other_cluster, touches
 from tools.other_makers import rides
 from tools.program import FITREC, as_nobody, bytes_of, for_everyone, run
 from tools.reader import Refused, checksum, show
@@ -201,6 +201,49 @@ def others(given):
         yield "rides of other makers", rides
     else:
         yield from over(given, rides, "other makers")
+
+
+def elsewhere(row):
+    """The row, with the latitude of its first record some 300 km away, and with 512 bytes of zeros in the middle; or None if it has none."""
+    first, middle = next(it for it in items(row) if it.what is not None), len(row) // 2
+    definition, at, out = first.what[1], first.start + 1, bytearray(row)
+    for number, size, _ in zip(*[iter(definition[6:6 + 3 * definition[5]])] * 3):
+        if number == 0:
+            at += 0 if definition[2] & 1 else size - 1
+            out[at] = out[at] + 2 & 0xFF
+            return hole(None, bytes(out), None, "zeros", 512, middle), middle
+        at += size
+    return None
+
+
+def from_elsewhere(given):
+    """A ride whose first position is that of another place, as of the last fix before it, is kept, also where a hole follows."""
+    found = of_other_makers()
+    if isinstance(found, Skipped):
+        yield "a first position from another place", found
+        return
+    for data in found:
+        head, row = numbers(data)
+        made = elsewhere(row)
+        if made is None:
+            continue
+        stood = sum(not touches(it, "zeros", 512, made[1]) for it in records(data))
+        file = mended(given.fitrec, head + made[0] + bytes(2), "--all")[1]
+        kept = len(records(file)) if file else 0
+        yield "a first position from another place", unless(kept >= KEPT[512] * stood - STRANGE, kept, stood)
+
+
+def named_once(given):
+    """Zeros in a file whose file_id has the local number 0 are read as others. None is kept."""
+    found, pick = of_other_makers(), random.Random(given.seed)
+    if isinstance(found, Skipped):
+        yield "zeros are no file_id", found
+        return
+    for (head, row), size in [(numbers(data), size) for data in found for size in (512, 4096)]:
+        at = pick.randrange(len(row) // 4, len(row) - size)
+        file = mended(given.fitrec, head + hole(pick, row, None, "zeros", size, at) + bytes(2), "--all")[1]
+        count = file and sum(it.what is not None and global_number(it) == 0 for it in messages(numbers(file)[1]))
+        yield "zeros are no file_id", differs(count, 1, at)
 
 
 def without_distances(given):
@@ -583,6 +626,8 @@ def check(given):
     yield from given.checks(finishes, given)
     yield from given.checks(noise, given)
     yield from given.checks(own, given)
+    yield from given.checks(from_elsewhere, given)
+    yield from given.checks(named_once, given)
     yield from given.checks(without_distances, given)
     yield from given.checks(others, given)
 

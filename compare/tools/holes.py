@@ -30,12 +30,14 @@ def numbers(data):
 def items(row):
     """The definitions and the records of a row of items, up to the first fault."""
     for it in messages(row):
-        if it.what is None:
+        if it.what is None or global_number(it) == RECORD:
             yield it
-            continue
-        definition = it.what[1]
-        if int.from_bytes(definition[3:5], "big" if definition[2] & 1 else "little") == RECORD:
-            yield it
+
+
+def global_number(it):
+    """The number of the kind of message that a message is of."""
+    definition = it.what[1]
+    return int.from_bytes(definition[3:5], "big" if definition[2] & 1 else "little")
 
 
 def messages(row):

@@ -1,14 +1,15 @@
 -- One more piece after others.
 use Rattle.std.proofs.Common.{◌≡◌, ℕ, ◌+◌, ◌-◌, ◌<◌, ◌≤◌, Bool, true, false, List, [], ◌∷◌, ◌++◌, length, take, drop, Option, refl, sym, ap, subst, ◌∙◌, append_assoc, append-nil, arith}
 use Rattle.std.proofs.lemmas.List.{length-append, length-drop, length-take}
-use Rattle.std.specs.Prelude.{flat_map, slice_range}
+use Rattle.std.specs.Prelude.{flat_map, slice_range, nat_lt, if◌then◌else◌}
+use Rattle.std.proofs.lemmas.Bool.{lt-ltb, ltb-true}
 use Rattle.std.proofs.lemmas.Grind.{flat_map-append}
 use Rattle.fit_grammar.specs.Format.Item.{Item}
 use Rattle.fit_grammar.specs.Format.Records.{Records, RecordsAfter, in_force}
 use Rattle.fit_mending.specs.declared.pieces.Piece.{Piece}
-use Rattle.fit_mending.specs.Pieces.{IsPieceAt, AreItems, ArePieces, AreCut, AreCutFrom, HasFirst, piece_bytes, kept_by, kept_of, kept_row}
+use Rattle.fit_mending.specs.Pieces.{IsPieceAt, AreItems, ArePieces, AreCut, AreCutFrom, HasFirst, KeepsFirst, piece_bytes, kept_by, kept_of, kept_row}
 use Rattle.fit_mending.specs.Pieces.{AreWithin}
-use Rattle.fit_mending.specs.Private.Cut.{AddsPiece, CutsTo, piece_from}
+use Rattle.fit_mending.specs.Private.Cut.{AddsPiece, CutsTo, HasAdded, piece_from}
 use Rattle.fit_mending.specs.Private.Passed.{HasPassed}
 use Rattle.fit_grammar.specs.declared.definition.Definition.{Definition}
 use Rattle.fit_mending.proofs.Rows.{no_items, records_after, records_append}
@@ -72,6 +73,9 @@ adds_piece bytes pieces start end kept some within = record {
   cut = λ before from items own cut are.
       cut_more before bytes from items own pieces (piece_from start end kept) cut
       (record { start = refl; some = some; within = within }) are;
+  added = (piece_from start end kept ∷ [], refl);
+  first = λ none more. ap (λ (ps : List Piece). ps ++ piece_from start end kept ∷ []) none;
+  one = ap (λ (b : Bool). pieces ++ (if b then piece_from start end kept ∷ [] else [])) (sym (lt-ltb start end some));
 }
 
 -- a piece of no bytes has no items
@@ -83,6 +87,13 @@ nothing_by : (kept : Bool) (bytes : List ℕ) → length bytes ≡ 0 → kept_by
 nothing_by true [] none = refl
 nothing_by true (byte ∷ bytes) none = absurd (omega (arith, none))
 nothing_by false bytes none = refl
+
+ltb-none : (start end : ℕ) → start ≡ end → nat_lt start end ≡ false
+ltb-none start end same = by (nat_lt start end) refl
+  where
+    by : (b : Bool) → nat_lt start end ≡ b → b ≡ false
+    by true is = absurd (omega (arith, same, ltb-true start end is))
+    by false is = refl
 
 pub adds_none : (bytes : List ℕ) (pieces : List Piece) (start end : ℕ) (kept : Bool) → start ≡ end
     → AddsPiece bytes start end kept pieces pieces
@@ -96,6 +107,9 @@ adds_none bytes pieces start end kept same =
           subst (λ (n : ℕ). AreCut before bytes from n (items ++ own) pieces) same
           (subst (λ (is : List Item). AreCut before bytes from start is pieces)
           (sym (ap (λ (is : List Item). items ++ is) none ∙ append-nil items)) cut);
+      added = ([], sym (append-nil pieces));
+      first = λ none some. absurd (omega (arith, same, some));
+      one = sym (append-nil pieces) ∙ ap (λ (b : Bool). pieces ++ (if b then piece_from start end kept ∷ [] else [])) (sym (ltb-none start end same));
     }
 
 -- no piece yet
@@ -191,3 +205,19 @@ pub first_if : (before : List Item) (bytes : List ℕ) (from to : ℕ) (pieces :
     → ArePieces bytes from to before pieces items → before ≡ [] → HasFirst bytes from pieces
 first_if before bytes from to pieces items p none =
     has_first bytes from to pieces items (subst (λ (is : List Item). ArePieces bytes from to is pieces items) none p)
+
+-- what was added first, and what was added after it
+pub added_more : (taken more all : List Piece) → HasAdded taken more → HasAdded more all → HasAdded taken all
+added_more taken more all a b = (a.0 ++ b.0, b.1 ∙ ap (λ (ps : List Piece). ps ++ b.0) a.1 ∙ append_assoc taken a.0 b.0)
+
+-- the first piece is kept up to a place, whatever is added to it
+pub keeps_first : (bytes : List ℕ) (from to end : ℕ) (more all : List Piece) → AddsPiece bytes from end true [] more → HasAdded more all
+    → to ≤ end → KeepsFirst from to all
+keeps_first bytes from to end more all adds added most = λ less. (
+  piece_from from end true,
+  added.0,
+  added.1 ∙ ap (λ (ps : List Piece). ps ++ added.0) (adds.first refl (omega (arith, less, most))),
+  refl,
+  refl,
+  most,
+)

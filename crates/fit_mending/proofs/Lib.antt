@@ -6,3 +6,6 @@ mod Found
 mod Defined
 mod Riding
 pub mod Others
+mod Steady
+mod Trusted
+mod Reading

@@ -20,9 +20,10 @@ use Rattle.fit_grammar.proofs.OneItem.Spelling.{spelling_not_empty}
 use Rattle.fit_grammar.proofs.KeptRow.ByLookup.{in_force_after-in_force}
 use Rattle.fit_mending.specs.declared.rides.Followed.{Followed}
 use Rattle.fit_mending.specs.Private.Passed.{HasLeft}
-use Rattle.fit_mending.specs.Others.{BeginsRide, GoesOn, IsRide, IsRideWith, followed_message, message_by, message_with}
+use Rattle.fit_mending.specs.Others.{BeginsRide, GoesOn, IsRide, IsRideWith, followed_message}
+use Rattle.fit_mending.specs.Judged.{message_by, message_with}
 
-message_same : (f : ℕ → Option Definition) (time : ℕ) (item : ReadItem) (used : ℕ) → LendsFrom f (steps.Item item used)
+pub message_same : (f : ℕ → Option Definition) (time : ℕ) (item : ReadItem) (used : ℕ) → LendsFrom f (steps.Item item used)
     → message_by f time (item_of item) ≡ message_lent item time
 message_same f time (items.Definition d) used lent = refl
 message_same f time (items.Data m) used lent = ap (λ (o : Option Definition). message_with o (compressed_time time m.offset) m.content.now) lent

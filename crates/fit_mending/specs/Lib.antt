@@ -5,3 +5,9 @@ pub mod Found
 pub mod Others
 pub mod Known
 pub mod Private
+pub mod Form
+pub mod Moves
+pub mod Times
+pub mod Judged
+pub mod Steady
+pub mod Reading

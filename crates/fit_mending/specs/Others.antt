@@ -1,15 +1,15 @@
 -- Other rides in bytes that are left out.
 use Rattle.std.specs.Prelude.{◌≡◌, ℕ, ◌+◌, ◌-◌, ◌<◌, ◌≤◌, Bool, true, false, List, [], ◌∷◌, ◌++◌, length, take, drop, Option, Some, None, unwrap_or, nat_lt, ◌==◌, if◌then◌else◌}
 use Rattle.fit_grammar.specs.declared.definition.Definition.{Definition}
-use Rattle.fit_grammar.specs.Format.Item.{Item, Defines, Data}
+use Rattle.fit_grammar.specs.Format.Item.{Item}
 use Rattle.fit_grammar.specs.Format.Records.{Records, in_force}
-use Rattle.fit_grammar.specs.Format.Message.{compressed_time, message_under}
 use Rattle.fit_grammar.specs.Calls.LentMessage.{LentMessage, lent_time}
 use Rattle.fit_grammar.specs.Calls.Step.{ItemAtFront}
 use Rattle.fit_grammar.specs.Calls.Table.{in_force_after}
 use Rattle.fit_mending.specs.declared.pieces.Piece.{Piece}
 use Rattle.fit_mending.specs.declared.pieces.Skipped.{Skipped}
 use Rattle.fit_mending.specs.declared.rides.Followed.{Followed}
+use Rattle.fit_mending.specs.Judged.{message_by}
 use Rattle.fit_mending.specs.Pieces.{AreItems, piece_bytes}
 
 -- before any message
@@ -45,17 +45,6 @@ followed_at so_far _ time = followed_other so_far time
 abbrev pub followed_message : Followed → Option LentMessage → Option Followed
 followed_message so_far None = Some so_far
 followed_message so_far (Some m) = followed_at so_far (m.message.global == 20) (lent_time m)
-
--- the message of an item under these definitions, after a time
-abbrev pub message_with : Option Definition → Option ℕ → List ℕ → Option LentMessage
-message_with None time content = None
-message_with (Some d) time content =
-    Some (record { compressed = time; message = message_under d time content })
-
-abbrev pub message_by : (ℕ → Option Definition) → ℕ → Item → Option LentMessage
-message_by definition_for time (Defines d) = None
-message_by definition_for time (Data local offset content) =
-    message_with (definition_for local) (compressed_time time offset) content
 
 -- at least eight records, and a last time that is at least eight seconds after the first of them
 pub record IsRide (so_far : Followed) : Type 0 where

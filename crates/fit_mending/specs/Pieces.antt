@@ -1,10 +1,13 @@
 -- The pieces of damaged bytes, of which some are kept.
-use Rattle.std.specs.Prelude.{◌≡◌, ℕ, ◌+◌, ◌<◌, ◌≤◌, Bool, true, false, List, [], ◌∷◌, ◌++◌, length, drop, flat_map, slice_range}
+use Rattle.std.specs.Prelude.{◌≡◌, ℕ, ◌+◌, ◌*◌, ◌<◌, ◌≤◌, Bool, true, false, List, [], ◌∷◌, ◌++◌, length, drop, flat_map, slice_range}
 use Rattle.fit_grammar.specs.Calls.LongestFront.{IsLongestFront}
 use Rattle.fit_grammar.specs.Format.Item.{Item}
-use Rattle.fit_grammar.specs.Format.Records.{Records, RecordsAfter}
+use Rattle.fit_grammar.specs.Format.Records.{Records, RecordsAfter, in_force}
 use Rattle.fit_mending.specs.declared.pieces.Piece.{Piece}
 use Rattle.fit_mending.specs.declared.pieces.Skipped.{Skipped}
+use Rattle.fit_mending.specs.Judged.{nothing}
+use Rattle.fit_mending.specs.Reading.{ReadsFrom}
+use Rattle.fit_mending.specs.Steady.{IsSteady, Sized, row_size}
 
 -- the piece begins at this place, has a byte, and is within the bytes
 pub record IsPieceAt (bytes : List ℕ) (at : ℕ) (piece : Piece) : Type 0 where
@@ -68,6 +71,20 @@ abbrev pub HasFirst : List ℕ → ℕ → List Piece → Type 0
 HasFirst bytes from [] = Unit {0}
 HasFirst bytes from (piece ∷ pieces) = piece.kept ≡ true → BeginsRow bytes from piece
 
+-- the first piece begins at a place and is kept, at least up to another
+abbrev pub KeepsFirst : ℕ → ℕ → List Piece → Type 0
+KeepsFirst from to pieces = from < to
+    → (piece : Piece) × (others : List Piece) × (pieces ≡ piece ∷ others) × (piece.start ≡ from) × (piece.kept ≡ true) × (to ≤ piece.end)
+
+-- of a row at the front in which no item is a fault or doubtful, the first piece has all but the last 32 items, at least
+abbrev pub KeepsSteady : List ℕ → ℕ → List Piece → Type 0
+KeepsSteady bytes from pieces = (row last : List Sized) → IsSteady (in_force []) nothing 0 (drop from bytes) (row ++ last)
+    → 32 ≤ length last → KeepsFirst from (from + row_size row) pieces
+
+-- bytes are not kept whole unless they are trusted, and a row of whole items from a place on
+abbrev pub IsNotWhole : List ℕ → ℕ → Bool → Type 0
+IsNotWhole bytes from trusted = (items : List Item) → trusted ≡ true → Records (drop from bytes) items → ⊥
+
 -- how all bytes from a place on are cut after the items `before`, such as definitions that are known: if they are trusted and a row of whole
 -- items, all are kept
 pub record CutsAfter (before : List Item) (bytes : List ℕ) (from : ℕ) (trusted : Bool)
@@ -76,10 +93,16 @@ pub record CutsAfter (before : List Item) (bytes : List ℕ) (from : ℕ) (trust
   pub whole : (items : List Item) → trusted ≡ true → Records (drop from bytes) items
       → kept_row bytes pieces ≡ drop from bytes
   pub first : before ≡ [] → HasFirst bytes from pieces
+  pub steady : KeepsSteady bytes from pieces
+  pub read : IsNotWhole bytes from trusted → ReadsFrom before bytes from pieces
 
 -- the same, if no item is before them
 abbrev pub CutsFaults : List ℕ → ℕ → Bool → List Piece → Type 0
 CutsFaults bytes from trusted pieces = CutsAfter [] bytes from trusted pieces
+
+-- A look: an item that is tried ahead of where reading is, before it is known what is kept there. So many bytes take at most so many.
+abbrev pub most_looks : ℕ → ℕ
+most_looks count = 2250000 + 350 * count
 
 -- the pieces of all bytes from a place on, after the items `before`; the new row spells these items and then those of the pieces
 pub record SkipsAfter (before : List Item) (bytes : List ℕ) (from : ℕ) (trusted : Bool)

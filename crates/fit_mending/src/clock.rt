@@ -1,5 +1,8 @@
 // Judges messages by their times.
 
+ghost use Rattle.std.specs.Prelude.{◌≡◌, option_map};
+ghost use Rattle.fit_mending.specs.Times.{before_of, compressed_sign as compressed_sign_of, heard, heard_compressed, heard_stated, heard_with, is_alike, may_follow as may_follow_at, set_to, stated_sign as stated_sign_of, states_twice};
+
 use fit_grammar::Message;
 
 // The number of record messages, which have the values of one moment.
@@ -14,158 +17,183 @@ pub(crate) const DAY: u32 = 86_400;
 // A record whose time is later by more seconds than this is no sign until the next one follows it, and another message is worth less.
 const LEAP: u32 = 120;
 
-const LATER: i32 = 1;
-
-// What a message is worth that states a later time than the one before it.
-pub(crate) const STATED: i32 = 3;
-
-// What a record is worth whose compressed timestamp is later by at most so many seconds, or by about as many as the one before it, which
-// noise has more easily.
+// A compressed timestamp is later by at most so many seconds, or by about as many as the one before it. Noise has more.
 const NEAR: u32 = 8;
 
-pub(crate) const COMPRESSED: i32 = 1;
-
-// What a message is worth that leaps, and may yet be one after a pause or a gap.
-pub(crate) const DOUBTFUL: i32 = -4;
+/// What an item says of whether its bytes are no noise.
+#[derive(Clone, Copy)]
+pub enum Sign {
+    /// Its time or a value leaps, as after a pause or a gap.
+    Doubtful,
+    Nothing,
+    /// It has a compressed timestamp, which noise has more easily, or is no record and leaps.
+    Weak,
+    /// It states a later time than the one before it.
+    Strong,
+}
 
 /// The times of the items so far, in seconds since 1989-12-31 00:00 UTC.
 #[derive(Clone, Copy)]
-pub(crate) struct Clock {
-    // The last time, from which a compressed timestamp counts.
-    pub(crate) last: u32,
-    // The last time of a record.
-    record: Option<u32>,
-    // The latest time.
-    latest: Option<u32>,
-    // By how many seconds the last compressed timestamp was later that was.
-    step: u32,
-    // Whether the next time that is stated may be later by any number of seconds.
-    may_leap: bool,
+pub struct Clock {
+    /// The last time, from which a compressed timestamp counts.
+    pub last: u32,
+    /// The last time of a record.
+    pub of_record: Option<u32>,
+    /// The latest time.
+    pub latest: Option<u32>,
+    /// By how many seconds the last compressed timestamp was later that was.
+    pub step: u32,
+    /// Whether the next time that is stated may be later by any number of seconds.
+    pub may_leap: bool,
 }
 
+// Before any item.
+pub(crate) const NO_TIMES: Clock = Clock {
+    last: 0,
+    of_record: None,
+    latest: None,
+    step: 0,
+    may_leap: false,
+};
+
 impl Clock {
-    // Before any item.
-    pub(crate) fn new() -> Clock {
-        Clock {
-            last: 0,
-            record: None,
-            latest: None,
-            step: 0,
-            may_leap: false,
-        }
-    }
-
-    // The same, if times leap here.
-    pub(crate) fn leapt(&self) -> Clock {
-        let mut clock = *self;
-        clock.may_leap = true;
-        clock
-    }
-
-    // By how many seconds the last time is later than that of another clock.
-    pub(crate) fn seconds_after(&self, other: &Clock) -> u32 {
-        self.last.saturating_sub(other.last)
-    }
-
-    // Whether a message stated a time.
-    pub(crate) fn is_set(&self) -> bool {
-        self.latest.is_some()
-    }
-
-    // What the time of a message is worth as a sign that its bytes are no noise, or none if it falls or leaps by more than a day. From
-    // here on the clock has it.
-    pub(crate) fn hear(&mut self, message: &Message<'_>, is_compressed: bool) -> Option<i32> {
+    // What the time of a message says, or none if it falls or leaps by more than a day. From here on the clock has it.
+    pub(crate) fn hear(&mut self, message: &Message<'_>, is_compressed: bool) -> Option<Sign>
+        ensures { heard self.old message.now is_compressed
+            ≡ option_map (λ sign. heard_with sign self.new) result }
+    {
         let Some(time) = message.time() else {
-            return Some(0);
+            return Some(Sign::Nothing);
         };
         let is_record = message.global() == RECORD;
         if !is_compressed {
-            let worth = self.stated_worth(time, is_record);
-            let done = self.set(time, is_record, worth);
-            self.may_leap = false;
-            return done;
+            return self.hear_stated(time, is_record);
         }
         if has_time_twice(message) {
             return None;
         }
-        if !self.is_set() {
-            return Some(0);
+        self.hear_compressed(time, is_record)
+    }
+
+    // The same of a message that states this time in a field.
+    fn hear_stated(&mut self, time: u32, is_record: bool) -> Option<Sign>
+        ensures { heard_stated self.old time is_record
+            ≡ option_map (λ sign. heard_with sign self.new) result }
+    {
+        let sign = self.stated_sign(time, is_record);
+        if !self.may_follow(time, is_record) {
+            return None;
+        }
+        self.set(time, is_record);
+        self.may_leap = false;
+        Some(sign)
+    }
+
+    // The same of a message with a compressed timestamp.
+    fn hear_compressed(&mut self, time: u32, is_record: bool) -> Option<Sign>
+        ensures { heard_compressed self.old time is_record
+            ≡ option_map (λ sign. heard_with sign self.new) result }
+    {
+        if self.latest.is_none() {
+            return Some(Sign::Nothing);
         }
         if !is_record {
-            return Some(DOUBTFUL);
+            return Some(Sign::Doubtful);
         }
-        let seconds = time.wrapping_sub(self.last);
-        let worth = self.compressed_worth(seconds);
+        let seconds = time.saturating_sub(self.last);
+        let sign = self.compressed_sign(seconds);
+        if !self.may_follow(time, true) {
+            return None;
+        }
+        self.set(time, true);
         if seconds > 0 {
             self.step = seconds;
         }
-        self.set(time, true, worth)
+        Some(sign)
     }
 
-    // The worth of a record that comes so many seconds after the last time. One in the same second says nothing.
-    fn compressed_worth(&self, seconds: u32) -> i32 {
+    // What a record says that comes so many seconds after the last time. One in the same second says nothing.
+    fn compressed_sign(&self, seconds: u32) -> Sign
+        ensures { result ≡ compressed_sign_of self.now seconds }
+    {
         if seconds == 0 {
-            0
-        } else if seconds <= NEAR || self.is_like_last(seconds) {
-            COMPRESSED
+            Sign::Nothing
+        } else if seconds <= NEAR || are_alike(seconds, self.step) {
+            Sign::Weak
         } else {
-            DOUBTFUL
+            Sign::Doubtful
         }
     }
 
-    // Whether so many seconds are at most twice those of the last step, and at least half of them.
-    fn is_like_last(&self, seconds: u32) -> bool {
-        seconds <= self.step.saturating_mul(2) && self.step <= seconds.saturating_mul(2)
-    }
-
-    // The worth of a message that states this time.
-    fn stated_worth(&self, time: u32, is_record: bool) -> i32 {
-        match self.latest {
-            None => STATED,
-            Some(latest) => {
-                let before = match self.record {
-                    Some(record) if is_record => record,
-                    _ => latest,
-                };
-                if !self.may_leap && time > before.saturating_add(LEAP) {
-                    if is_record { DOUBTFUL } else { LATER }
-                } else if time > self.last {
-                    STATED
-                } else {
-                    0
-                }
-            }
+    // What a message says that states this time.
+    fn stated_sign(&self, time: u32, is_record: bool) -> Sign
+        ensures { result ≡ stated_sign_of self.now time is_record }
+    {
+        let Some(latest) = self.latest else {
+            return Sign::Strong;
+        };
+        let before = self.before(latest, is_record);
+        if !self.may_leap && time.saturating_sub(before) > LEAP {
+            return if is_record {
+                Sign::Doubtful
+            } else {
+                Sign::Weak
+            };
+        }
+        if time > self.last {
+            Sign::Strong
+        } else {
+            Sign::Nothing
         }
     }
 
-    // Sets the clock to the time of a message, unless that is a fault.
-    fn set(&mut self, time: u32, is_record: bool, worth: i32) -> Option<i32> {
-        let latest = self.latest.unwrap_or(time);
-        if !self.may_follow(time, is_record, latest) {
-            return None;
+    // The time before a message: for a record that of the last one, if there is one, or else the latest time.
+    fn before(&self, latest: u32, is_record: bool) -> u32
+        ensures { result ≡ before_of self.now latest is_record }
+    {
+        match self.of_record {
+            Some(record) if is_record => record,
+            _ => latest,
         }
+    }
+
+    // Sets the clock to the time of a message.
+    fn set(&mut self, time: u32, is_record: bool)
+        ensures { self.new ≡ set_to self.old time is_record }
+    {
         self.last = time;
-        self.latest = Some(latest.max(time));
+        self.latest = Some(self.latest.unwrap_or(time).max(time));
         if is_record {
-            self.record = Some(time);
+            self.of_record = Some(time);
         }
-        Some(worth)
     }
 
     // Whether a message may have this time: a record's does not fall, and no time leaps.
-    fn may_follow(&self, time: u32, is_record: bool, latest: u32) -> bool {
-        if !self.may_leap && time > latest.saturating_add(DAY) {
+    fn may_follow(&self, time: u32, is_record: bool) -> bool
+        ensures { result ≡ may_follow_at self.now time is_record }
+    {
+        let latest = self.latest.unwrap_or(time);
+        if !self.may_leap && time.saturating_sub(latest) > DAY {
             return false;
         }
-        match self.record {
+        match self.of_record {
             Some(record) if is_record => time >= record,
-            _ => time >= latest.saturating_sub(DAY),
+            _ => latest.saturating_sub(time) <= DAY,
         }
     }
 }
 
+// Whether neither number is more than twice the other.
+fn are_alike(one: u32, other: u32) -> bool
+    ensures { result ≡ is_alike one other }
+{
+    one.saturating_sub(other) <= other && other.saturating_sub(one) <= one
+}
+
 // Whether a message with a compressed timestamp has a field for the time beside it.
-fn has_time_twice(message: &Message<'_>) -> bool {
+fn has_time_twice(message: &Message<'_>) -> bool
+    ensures { result ≡ states_twice message.now.message.fields }
+{
     let mut found = false;
     for field in message.fields() {
         if field.number == TIME {

@@ -1,18 +1,26 @@
 // The form of items: first bytes, and stretches that nobody wrote.
 
+ghost use Rattle.std.specs.Prelude.{◌≡◌, ◌==◌};
+ghost use Rattle.std.specs.List.{list_all};
+ghost use Rattle.fit_mending.specs.Form.{begins_compressed, begins_definition, begins_item, begins_reserved, blank};
+
 // The least number of bytes of an item that is an erased stretch if all its bytes are the same.
 const BLANK: usize = 4;
 
 // Whether the first bytes may be those of an item that a device writes.
-pub(crate) fn may_begin(bytes: &[u8]) -> bool {
+pub(crate) fn may_begin(bytes: &[u8]) -> bool
+    ensures { result ≡ begins_item bytes.now }
+{
     match bytes {
-        [first, second, ..] => { *first < 16 || *first >= 128 || (*first >= 64 && *second == 0) }
+        [first, second, ..] => *first < 16 || *first >= 128 || (*first >= 64 && *second == 0),
         _ => true,
     }
 }
 
 // Whether the first byte is that of a definition.
-pub(crate) fn is_definition(bytes: &[u8]) -> bool {
+pub(crate) fn is_definition(bytes: &[u8]) -> bool
+    ensures { result ≡ begins_definition bytes.now }
+{
     match bytes {
         [first, ..] => *first >= 64 && *first < 128,
         [] => false,
@@ -20,7 +28,9 @@ pub(crate) fn is_definition(bytes: &[u8]) -> bool {
 }
 
 // Whether the first byte of a data message announces a compressed timestamp.
-pub(crate) fn is_compressed(bytes: &[u8]) -> bool {
+pub(crate) fn is_compressed(bytes: &[u8]) -> bool
+    ensures { result ≡ begins_compressed bytes.now }
+{
     match bytes {
         [first, ..] => *first >= 128,
         [] => false,
@@ -28,7 +38,9 @@ pub(crate) fn is_compressed(bytes: &[u8]) -> bool {
 }
 
 // Whether the first byte of a data message has a reserved bit.
-pub(crate) fn is_reserved(bytes: &[u8]) -> bool {
+pub(crate) fn is_reserved(bytes: &[u8]) -> bool
+    ensures { result ≡ begins_reserved bytes.now }
+{
     match bytes {
         [first, ..] => *first >= 16 && *first < 128,
         [] => false,
@@ -36,16 +48,20 @@ pub(crate) fn is_reserved(bytes: &[u8]) -> bool {
 }
 
 // Whether these are bytes of an erased or unwritten stretch.
-pub(crate) fn is_blank(bytes: &[u8]) -> bool {
+pub(crate) fn is_blank(bytes: &[u8]) -> bool
+    ensures { result ≡ blank bytes.now }
+{
     match bytes {
-        [first, rest @ ..] => {
-            (*first == 0 || *first == 0xFF) && bytes.len() >= BLANK && are_all(rest, *first)
+        [first, ..] => {
+            (*first == 0 || *first == 0xFF) && bytes.len() >= BLANK && are_all(bytes, *first)
         }
         [] => false,
     }
 }
 
-fn are_all(bytes: &[u8], byte: u8) -> bool {
+fn are_all(bytes: &[u8], byte: u8) -> bool
+    ensures { result ≡ list_all (λ other. other == byte) bytes.now }
+{
     for other in bytes {
         if *other != byte {
             return false;

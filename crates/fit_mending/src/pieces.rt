@@ -22,4 +22,6 @@ pub struct Skipped {
     pub pieces: Vec<Piece>,
     /// Of each piece that is left out and has another ride, when that starts, in seconds since 1989-12-31 00:00 UTC.
     pub others: Vec<Option<u32>>,
+    /// At how many items it looked ahead.
+    pub looks: u64,
 }

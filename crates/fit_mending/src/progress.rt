@@ -1,108 +1,138 @@
 // Judges items by their form, their times and their values.
 
-use crate::clock::{COMPRESSED, Clock, DOUBTFUL, RECORD, STATED};
+ghost use Rattle.std.specs.Prelude.{◌≡◌, ◌-◌, ◌==◌, ◌&&◌, nat_lt, is_some, option_map};
+ghost use Rattle.fit_grammar.specs.Calls.LentMessage.{message_lent};
+ghost use Rattle.fit_mending.specs.Judged.{anew as anew_of, judged, judged_with, moved, nothing, sign_by as sign_by_of};
+
+use crate::clock::{Clock, NO_TIMES, RECORD, Sign};
 use crate::form::{is_blank, is_compressed, is_reserved};
 use crate::layout::is_plausible;
-use crate::values::{Change, Values};
-use fit_grammar::{Item, message_of};
+use crate::values::{Change, NO_VALUES, Values};
+use fit_grammar::{Item, Message, message_of};
+
+// The number of the message that names a file, which has one, before its records.
+const FILE_ID: u16 = 0;
 
 // Before so many records times may fall, and the ride is what follows.
 const FEW: u32 = 64;
 
 /// How far the items so far have come: their times, and the distances and positions of the records.
 #[derive(Clone, Copy)]
-pub(crate) struct Progress {
-    clock: Clock,
-    values: Values,
-    // How many records there were.
-    records: u32,
-    // Whether definitions of another file are in force, which may be those of another device.
-    is_guessed: bool,
+pub struct Progress {
+    pub clock: Clock,
+    pub values: Values,
+    /// How many records there were.
+    pub records: u32,
+    /// Whether definitions of another file are in force, which may be those of another device.
+    pub is_guessed: bool,
 }
 
 impl Progress {
     // Before any item.
-    pub(crate) fn new() -> Progress {
+    pub(crate) fn new() -> Progress
+        ensures { result ≡ nothing }
+    {
         Progress {
-            clock: Clock::new(),
-            values: Values::new(),
+            clock: NO_TIMES,
+            values: NO_VALUES,
             records: 0,
             is_guessed: false,
         }
     }
 
-    // The same, if definitions of another file come into force.
-    pub(crate) fn guessed(&self) -> Progress {
+    // What is left of it where a ride begins anew: distances and positions do, and times leap. They fall only after few records, as where
+    // a clock was set, or else it is another ride.
+    pub(crate) fn anew(&self) -> Progress
+        ensures { result ≡ anew_of self.now }
+    {
         let mut progress = *self;
-        progress.is_guessed = true;
+        progress.values = NO_VALUES;
+        if self.has_few() {
+            progress.clock = NO_TIMES;
+            progress.records = 0;
+        } else {
+            progress.clock.may_leap = true;
+        }
         progress
     }
 
-    // Whether that is so.
-    pub(crate) fn is_guessed(&self) -> bool {
-        self.is_guessed
-    }
-
-    // What is left of it where a ride begins anew: distances and positions do, and times leap. They fall only after few records, as where
-    // a clock was set, or else it is another ride.
-    pub(crate) fn anew(&self) -> Progress {
-        let is_young = self.records < FEW;
-        Progress {
-            clock: if is_young {
-                Clock::new()
-            } else {
-                self.clock.leapt()
-            },
-            values: Values::new(),
-            records: if is_young { 0 } else { self.records },
-            is_guessed: self.is_guessed,
-        }
-    }
-
     // By how many seconds the last time is later than that after other items.
-    pub(crate) fn seconds_after(&self, other: &Progress) -> u32 {
-        self.clock.seconds_after(&other.clock)
+    pub(crate) fn seconds_after(&self, other: &Progress) -> u32
+        ensures { result ≡ self.now.clock.last - other.now.clock.last }
+    {
+        self.clock.last.saturating_sub(other.clock.last)
     }
 
     // Whether a time is known that an item could contradict.
-    pub(crate) fn is_timed(&self) -> bool {
-        self.clock.is_set()
+    pub(crate) fn is_timed(&self) -> bool
+        ensures { result ≡ is_some self.now.clock.latest }
+    {
+        self.clock.latest.is_some()
     }
 
-    // Whether the last time is the same.
-    pub(crate) fn is_at_time_of(&self, other: &Progress) -> bool {
-        self.clock.last == other.clock.last
+    // Whether the last time is that after other items, and no record more was there.
+    pub(crate) fn is_still_at(&self, other: &Progress) -> bool
+        ensures { result ≡ (self.now.clock.last == other.now.clock.last && self.now.records == other.now.records) }
+    {
+        self.clock.last == other.clock.last && self.records == other.records
     }
 
-    // What an item is worth as a sign that these bytes are no noise, or none if it is a fault: a definition that no device writes, a
-    // reserved bit, an erased stretch, or a time, a distance or a position that falls or leaps. From here on its times and values are
-    // the last ones.
-    pub(crate) fn judge(&mut self, item: &Item<'_>, bytes: &[u8]) -> Option<i32> {
+    // Whether there were so few records that the ride may be what follows.
+    pub(crate) fn has_few(&self) -> bool
+        ensures { result ≡ nat_lt self.now.records 64 }
+    {
+        self.records < FEW
+    }
+
+    // What an item says of whether these bytes are no noise, or none if it is a fault: a definition that no device writes, a reserved bit,
+    // an erased stretch, a file_id after a record, or a time, a distance or a position that falls or leaps. From here on its times and
+    // values are the last ones.
+    pub(crate) fn judge(&mut self, item: &Item<'_>, bytes: &[u8]) -> Option<Sign>
+        ensures { judged self.old (message_lent item.now self.old.clock.last) bytes.now
+            ≡ option_map (λ sign. judged_with sign self.new) result }
+    {
         let Some(message) = message_of(item, self.clock.last) else {
-            return nothing_if(is_plausible(bytes));
+            return if is_plausible(bytes) {
+                Some(Sign::Nothing)
+            } else {
+                None
+            };
         };
-        if is_reserved(bytes) || is_blank(bytes) {
+        if is_reserved(bytes)
+            || is_blank(bytes)
+            || (message.global() == FILE_ID && self.records > 0)
+        {
             return None;
         }
-        let worth = self.clock.hear(&message, is_compressed(bytes))?;
+        let sign = self.clock.hear(&message, is_compressed(bytes))?;
         if message.global() != RECORD {
-            return Some(worth);
+            return Some(sign);
         }
+        self.move_to(&message, sign)
+    }
+
+    // The same of a record whose time says this.
+    fn move_to(&mut self, ride: &Message<'_>, sign: Sign) -> Option<Sign>
+        ensures { moved self.old ride.now.message.fields sign
+            ≡ option_map (λ sign. judged_with sign self.new) result }
+    {
         self.records = self.records.saturating_add(1);
-        worth_by(self.values.follow(&message, self.clock.last), worth)
+        let change = self.values.follow(ride, self.clock.last);
+        sign_by(change, sign)
     }
 }
 
-fn nothing_if(holds: bool) -> Option<i32> {
-    if holds { Some(0) } else { None }
-}
-
-// What a record of this worth is worth if its values change so. A compressed timestamp counts as a stated time if they go on as usual.
-fn worth_by(change: Change, worth: i32) -> Option<i32> {
+// What a record says if its values change so. A compressed timestamp counts as a stated time if they go on as usual.
+fn sign_by(change: Change, sign: Sign) -> Option<Sign>
+    ensures { result ≡ sign_by_of change sign }
+{
     match change {
-        Change::Unknown => Some(worth),
-        Change::Usual => Some(if worth == COMPRESSED { STATED } else { worth }),
-        Change::Large => Some(DOUBTFUL),
+        Change::Unknown => Some(sign),
+        Change::Usual => match sign {
+            Sign::Weak => Some(Sign::Strong),
+            _ => Some(sign),
+        },
+        Change::Large => Some(Sign::Doubtful),
         Change::Impossible => None,
     }
 }

@@ -1,15 +1,22 @@
 // Rows that do not belong where they are, such as older content of a card.
 
+ghost use Rattle.std.specs.Prelude.{◌≡◌, ◌≤◌, ◌<◌, ◌+◌, ◌*◌, ℕ, IfSome, drop, length};
+ghost use Rattle.fit_grammar.specs.Calls.Table.{definition_in};
+ghost use Rattle.fit_mending.specs.Private.Counting.{KeepsLooks, TakesLooks};
+ghost use Rattle.fit_mending.specs.Private.Looking.{FollowsRow, IsEndOf};
+ghost use Rattle.fit_mending.specs.Steady.{HasSound, IsTrusted};
+
 use crate::fitting::after_fault;
+use crate::looks::Looks;
 use crate::progress::Progress;
-use crate::trial::{Need, follows};
-use fit_grammar::{Latest, Step, step_after, take_over};
+use crate::trial::{Need, follows, is_trusted};
+use fit_grammar::{Latest, Step, take_over};
 
 // What has to follow a row for it to be stray.
 const AFTER_STRAY: Need = Need {
     worth: 24,
     at_end: 24,
-    at_fault: i32::MAX,
+    at_fault: u32::MAX,
     idle: 16,
     gap: 0,
 };
@@ -29,7 +36,58 @@ enum Sequel<'a> {
     OfRow(&'a [u8]),
     // Items that fit what was before it, and not what it ends with.
     OfBefore(&'a [u8]),
-    Nothing,
+    Unrelated,
+}
+
+/// How many bytes are left out at the front, where items that fit begin: those up to the end of a row that is stray, or none. Before the
+/// first time no row is, and none that is trusted is left out.
+pub(crate) fn count_stray<'a>(
+    bytes: &'a [u8],
+    latest: &Latest<'a>,
+    progress: &Progress,
+    looks: &mut Looks,
+) -> usize
+    ensures within { result ≤ length bytes.now }
+    ensures none { (place : ℕ) → place < result → IsTrusted (definition_in latest.now) progress.now (drop place bytes.now) → ⊥ }
+    ensures some { HasSound (definition_in latest.now) progress.now bytes.now
+        → HasSound (definition_in latest.now) progress.now (drop result bytes.now) }
+    ensures looks { KeepsLooks looks.old looks.new (256 * result) }
+{
+    if !progress.is_timed() {
+        return 0;
+    }
+    match after_stray(bytes, latest, progress, looks) {
+        Some(rest) if looks.are_left() => first_trusted(
+            bytes,
+            bytes.len().saturating_sub(rest.len()),
+            latest,
+            progress,
+            looks,
+        ),
+        _ => 0,
+    }
+}
+
+// The first place before this one at which a trusted row begins, or else this one.
+fn first_trusted<'a>(
+    bytes: &'a [u8],
+    end: usize,
+    latest: &Latest<'a>,
+    progress: &Progress,
+    looks: &mut Looks,
+) -> usize
+    requires { end ≤ length bytes.now }
+    ensures within { result ≤ end }
+    ensures none { (place : ℕ) → place < result → IsTrusted (definition_in latest.now) progress.now (drop place bytes.now) → ⊥ }
+    ensures some { result < end → HasSound (definition_in latest.now) progress.now (drop result bytes.now) }
+    ensures looks { TakesLooks looks.old looks.new (256 * (result + 1)) }
+{
+    for place in 0..end {
+        if is_trusted(&bytes[place..], latest, progress, looks) {
+            return place;
+        }
+    }
+    end
 }
 
 /// The bytes after the row at the front, if it is stray: soon after it items follow that fit what was before it, and not what it ends
@@ -38,16 +96,21 @@ pub(crate) fn after_stray<'a>(
     bytes: &'a [u8],
     latest: &Latest<'a>,
     progress: &Progress,
-) -> Option<&'a [u8]> {
+    looks: &mut Looks,
+) -> Option<&'a [u8]>
+    ensures end { IfSome result (λ rest. IsEndOf bytes.now rest.now) }
+    ensures some { IfSome result (λ rest. HasSound (definition_in latest.now) progress.now rest.now) }
+    ensures looks { KeepsLooks looks.old looks.new 0 }
+{
     let mut own = latest.again();
     let mut later = *progress;
     let mut rest = bytes;
     for _ in 0..MOST_ROWS {
-        let others = after_row(rest, progress, &mut own, &mut later)?;
-        match look_after(others, latest, progress, &own, &later) {
+        let others = after_row(rest, progress, &mut own, &mut later, looks)?;
+        match look_after(others, latest, progress, &own, &later, looks) {
             Sequel::OfRow(next) => rest = next,
             Sequel::OfBefore(next) => return Some(next),
-            Sequel::Nothing => return None,
+            Sequel::Unrelated => return None,
         }
     }
     None
@@ -60,11 +123,18 @@ fn after_row<'a>(
     before: &Progress,
     latest: &mut Latest<'a>,
     progress: &mut Progress,
-) -> Option<&'a [u8]> {
+    looks: &mut Looks,
+) -> Option<&'a [u8]>
+    ensures end { IfSome result (λ rest. IsEndOf bytes.now rest.now) }
+    ensures looks { KeepsLooks looks.old looks.new 0 }
+{
     let mut rest = bytes;
     let mut leap = 0;
     for _ in 0..bytes.len() {
-        let Step::Item(item, used) = step_after(rest, latest) else {
+        if !looks.are_left() {
+            return None;
+        }
+        let Step::Item(item, used) = looks.look(rest, latest) else {
             return Some(rest);
         };
         let (own, others) = rest.split_at(used);
@@ -93,15 +163,22 @@ fn look_after<'a>(
     progress: &Progress,
     own: &Latest<'a>,
     later: &Progress,
-) -> Sequel<'a> {
+    looks: &mut Looks,
+) -> Sequel<'a>
+    ensures is { FollowsRow (definition_in latest.now) progress.now bytes.now result }
+    ensures looks { KeepsLooks looks.old looks.new 0 }
+{
     for count in 0..bytes.len().min(SOON) {
+        if !looks.are_left() {
+            return Sequel::Unrelated;
+        }
         let rest = &bytes[count..];
-        if follows(rest, own, later, after_fault(later)) {
+        if follows(rest, own, later, after_fault(later), looks) {
             return Sequel::OfRow(rest);
         }
-        if follows(rest, latest, progress, &AFTER_STRAY) {
+        if follows(rest, latest, progress, &AFTER_STRAY, looks) {
             return Sequel::OfBefore(rest);
         }
     }
-    Sequel::Nothing
+    Sequel::Unrelated
 }

@@ -22,6 +22,10 @@ returns-then-is_row-clause-cut g c =
         cut = found.2 before;
         whole = λ items trusted are. found.3;
         first = first_if before bytes front (length bytes) found.0 (found.2 before).0 (found.2 before).1.are_pieces;
+        steady = found.4;
+        read = λ not_whole.
+            let row = c.is_row.ensures.0 c.if-is_row.true in
+            absurd (not_whole row.0 c.if-trusted.true (subst (λ l. Records l row.0) (take_rest bytes front) row.1));
       },
     ))
     c.keep_all.ensures.cut
@@ -44,6 +48,8 @@ returns-else-trusted-clause-cut g c =
         cut = found.2 before is;
         whole = λ items trusted are. absurd (no_row items trusted are);
         first = first_if before bytes front (length bytes) found.0 (found.2 before is).0 (found.2 before is).1.are_pieces;
+        steady = found.4;
+        read = λ not_whole. found.3 before is;
       },
     ))
     c.cut.ensures.cut

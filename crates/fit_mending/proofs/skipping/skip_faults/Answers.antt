@@ -55,6 +55,7 @@ returns c =
           are_records = row_spells known bytes _ front c.args.trusted before _ row are (cuts before are);
         };
       };
+      looks = omega arith;
       short = omega (arith, ap length row, length-append known (kept_row bytes c.cut_after.new.pieces.items), most);
       others = record {
         own = c.own_ride.result;
