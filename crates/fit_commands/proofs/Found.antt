@@ -16,10 +16,10 @@ use Rattle.fit_commands.specs.Reported.{SumsUpNamed}
 use Rattle.fit_files.specs.Exports.Checked.{checked_json}
 use Rattle.fit_files.specs.Printed.Summary.{summary_text}
 
-pub found_more : (json : Bool) (files : List FoundFile) (text : List ℕ) (refused : ℕ) (file : FoundFile) (line : List ℕ)
-    → AreFoundLines json files text refused → SumsUpNamed file.name file.found → IsFoundLine json file.name.now file.found line
-    → AreFoundLines json (files ++ file ∷ []) (text ++ line) (refused + refused_by file.found)
-found_more json [] text refused file line are sums is = (
+pub found_more : (json : Bool) (held : List ℕ → Option (List ℕ)) (files : List FoundFile) (text : List ℕ) (refused : ℕ) (file : FoundFile) (line : List ℕ)
+    → AreFoundLines json held files text refused → SumsUpNamed (held file.name.now) file.name file.found → IsFoundLine json file.name.now file.found line
+    → AreFoundLines json held (files ++ file ∷ []) (text ++ line) (refused + refused_by file.found)
+found_more json held [] text refused file line are sums is = (
   line,
   [],
   0,
@@ -29,7 +29,7 @@ found_more json [] text refused file line are sums is = (
   omega (arith, are.1),
   (refl, refl),
 )
-found_more json (first ∷ files) text refused file line are sums is = (
+found_more json held (first ∷ files) text refused file line are sums is = (
   are.0,
   are.1 ++ line,
   are.2 + refused_by file.found,
@@ -37,7 +37,7 @@ found_more json (first ∷ files) text refused file line are sums is = (
   are.4,
   ap (λ (l : List ℕ). l ++ line) are.5 ∙ append_assoc are.0 are.1 line,
   omega (arith, are.6),
-  found_more json files are.1 are.2 file line are.7 sums is,
+  found_more json held files are.1 are.2 file line are.7 sums is,
 )
 
 names_append : (files : List FoundFile) (file : FoundFile) → map name_of (files ++ file ∷ []) ≡ map name_of files ++ file.name.now ∷ []
@@ -92,11 +92,11 @@ no_line None front name old fault = tt
 no_line (Some t) front name old fault = nothing_written old fault (named_line front name t)
 
 -- a call that stops has printed the lines of the first files
-pub checks_stop : (json : Bool) (names : List (List ℕ)) (files : List FoundFile) (others : List (List ℕ)) (old new : Option (List ℕ)) (text : List ℕ)
-    (refused : ℕ) (r : Result ℕ Fault) → IsErr r → names ≡ map name_of files ++ others → AreFoundLines json files text refused
-    → AppendsBeginning old new text → ChecksAll json names old new r
-checks_stop json names files others old new text refused (Ok x) bad names_are are begins = absurd (cc)
-checks_stop json names files others old new text refused (Err e) bad names_are are begins =
+pub checks_stop : (json : Bool) (held : List ℕ → Option (List ℕ)) (names : List (List ℕ)) (files : List FoundFile) (others : List (List ℕ)) (old new : Option (List ℕ)) (text : List ℕ)
+    (refused : ℕ) (r : Result ℕ Fault) → IsErr r → names ≡ map name_of files ++ others → AreFoundLines json held files text refused
+    → AppendsBeginning old new text → ChecksAll json held names old new r
+checks_stop json held names files others old new text refused (Ok x) bad names_are are begins = absurd (cc)
+checks_stop json held names files others old new text refused (Err e) bad names_are are begins =
     (files, others, text, refused, names_are, are, begins)
 
 -- no more are refused than were checked

@@ -8,7 +8,8 @@ use Rattle.fit_grammar.specs.Calls.Output.{AppendsBeginning}
 use Rattle.fit_grammar.specs.declared.file.fault.FileFault.{FileFault}
 use Rattle.fit_files.specs.Printed.Parts.{AreLines, IsReadAs, part_line}
 use Rattle.fit_mending.specs.declared.chained.Part.{Part}
-use Rattle.fit_commands.specs.Reported.{PrintsLines}
+use Rattle.fit_places.specs.NamedFiles.{ReplacesNamed}
+use Rattle.fit_commands.specs.Reported.{PrintsLines, WritesParts, part_name}
 use Rattle.fit_commands.specs.declared.fault.Fault.{Fault}
 
 abbrev pub line_of : Part → Option FileFault → List ℕ
@@ -62,3 +63,10 @@ pub lines_stop : (parts some others : List Part) (old new : Option (List ℕ)) (
     → parts ≡ some ++ others → AreLines some text → AppendsBeginning old new text → PrintsLines parts old new r
 lines_stop parts some others old new text (Ok x) bad split are begins = absurd (cc)
 lines_stop parts some others old new text (Err e) bad split are begins = (some, others, split, text, are, begins)
+
+-- one more file was written
+pub written_more : (folder : List ℕ) (parts : List Part) (part : Part) (old mid new : List ℕ → Option (List ℕ)) → WritesParts folder parts old mid
+    → ReplacesNamed (part_name folder part) part.bytes.now mid new → WritesParts folder (parts ++ part ∷ []) old new
+written_more folder [] part old mid new none is = (new, record { named = is.named; others = λ other not. is.others other not ∙ none other }, λ name. refl)
+written_more folder (first ∷ parts) part old mid new were is =
+    (were.0, were.1, written_more folder parts part were.0 mid new were.2 is)

@@ -1,5 +1,5 @@
 -- The parts of an activity as they are put: for `joined_of`.
-use Rattle.std.proofs.Common.{◌≡◌, ℕ, ◌-◌, ◌<◌, ◌≤◌, Bool, true, false, List, [], ◌∷◌, length, get_or, take, drop, map, refl, sym, ap, subst, ◌∙◌, arith}
+use Rattle.std.proofs.Common.{◌≡◌, ℕ, ◌-◌, ◌<◌, ◌≤◌, Bool, true, false, List, [], ◌∷◌, length, get_or, take, drop, map, Option, refl, sym, ap, subst, ◌∙◌, arith}
 use Rattle.std.specs.Borrow.{Bor}
 use Rattle.std.specs.List.{AllByRecursion}
 use Rattle.std.proofs.lemmas.List.{take_all}
@@ -11,8 +11,8 @@ use Rattle.fit_commands.specs.Reported.{IsFormOfFile}
 use Rattle.fit_commands.specs.JoinedFile.{AreFilesOf, ArePartsOf, ArePut, part_lent}
 use Rattle.fit_commands.specs.declared.join.NamedFile.{NamedFile}
 
-abbrev pub IsForm : Part → Type 0
-IsForm part = IsFormOfFile part.file
+abbrev pub IsForm : (List ℕ → Option (List ℕ)) → Part → Type 0
+IsForm held part = IsFormOfFile (held part.name.now) part.file
 
 abbrev pub IsPlainPart : Part → Type 0
 IsPlainPart part = AllByRecursion IsPlain part.file.items
@@ -22,19 +22,20 @@ names_lent : (files : List NamedFile) → map (λ part. part.name) (map part_len
 names_lent [] = refl
 names_lent (named ∷ files) = ap (λ (names : List (Bor (List ℕ))). named.name ∷ names) (names_lent files)
 
-forms_lent : (files : List NamedFile) → AllByRecursion (λ named. IsFormOfFile named.file) files → AllByRecursion IsForm (map part_lent files)
-forms_lent [] all = tt
-forms_lent (named ∷ files) all = (all.0, forms_lent files all.1)
+forms_lent : (held : List ℕ → Option (List ℕ)) (files : List NamedFile) → AllByRecursion (λ named. IsFormOfFile (held named.name.now) named.file) files
+    → AllByRecursion (IsForm held) (map part_lent files)
+forms_lent held [] all = tt
+forms_lent held (named ∷ files) all = (all.0, forms_lent held files all.1)
 
-pub parts_lent : (names : List (Bor (List ℕ))) (files : List NamedFile) (parts : List Part) → AreFilesOf names files → parts ≡ map part_lent files
-    → ArePartsOf names parts
-parts_lent names files parts are is =
-    subst (ArePartsOf names) (sym is) (names_lent files ∙ are.0, forms_lent files are.1)
+pub parts_lent : (held : List ℕ → Option (List ℕ)) (names : List (Bor (List ℕ))) (files : List NamedFile) (parts : List Part)
+    → AreFilesOf held names files → parts ≡ map part_lent files → ArePartsOf held names parts
+parts_lent held names files parts are is =
+    subst (ArePartsOf held names) (sym is) (names_lent files ∙ are.0, forms_lent held files are.1)
 
 -- a form of a file has no compressed timestamp
-pub plain_parts : (parts : List Part) → AllByRecursion IsForm parts → AllByRecursion IsPlainPart parts
-plain_parts [] all = tt
-plain_parts (part ∷ parts) ((bytes, most, (v, is_file, form)), all) = (form.written_out, plain_parts parts all)
+pub plain_parts : (held : List ℕ → Option (List ℕ)) (parts : List Part) → AllByRecursion (IsForm held) parts → AllByRecursion IsPlainPart parts
+plain_parts held [] all = tt
+plain_parts held (part ∷ parts) ((bytes, read, (v, is_file, form)), all) = (form.written_out, plain_parts held parts all)
 
 -- what holds of the parts as they are given holds of them as they are put
 pub all_put : (P : Part → Type 0) (as_given : Bool) (given parts : List Part) → ArePut as_given given parts → AllByRecursion P given
@@ -53,15 +54,15 @@ pub some_named : (given : List Part) (name : Bor (List ℕ)) (names : List (Bor 
 some_named [] name names is = absurd (cc)
 some_named (part ∷ given) name names is = omega arith
 
-pub none_put : (P : Type 0) (as_given : Bool) (name : Bor (List ℕ)) (names : List (Bor (List ℕ))) (given parts : List Part)
-    → ArePartsOf (name ∷ names) given → ArePut as_given given parts → length parts < 1 → P
-none_put P as_given name names given parts are put none =
+pub none_put : (P : Type 0) (held : List ℕ → Option (List ℕ)) (as_given : Bool) (name : Bor (List ℕ)) (names : List (Bor (List ℕ))) (given parts : List Part)
+    → ArePartsOf held (name ∷ names) given → ArePut as_given given parts → length parts < 1 → P
+none_put P held as_given name names given parts are put none =
     absurd (omega (arith, none, count_put as_given given parts put, some_named given name names are.0))
 
 -- each of them has no compressed timestamp
-pub plain_put : (as_given : Bool) (names : List (Bor (List ℕ))) (given parts : List Part) → ArePartsOf names given → ArePut as_given given parts
+pub plain_put : (held : List ℕ → Option (List ℕ)) (as_given : Bool) (names : List (Bor (List ℕ))) (given parts : List Part) → ArePartsOf held names given → ArePut as_given given parts
     → AllByRecursion IsPlainPart parts
-plain_put as_given names given parts are put = plain_parts parts (all_put IsForm as_given given parts put are.1)
+plain_put held as_given names given parts are put = plain_parts held parts (all_put (IsForm held) as_given given parts put are.1)
 
 pub first_plain : (parts : List Part) (part : Part) → 1 ≤ length parts → part ≡ get_or parts 0 part → AllByRecursion IsPlainPart parts
     → IsPlainPart part

@@ -15,6 +15,7 @@ use Rattle.fit_files.specs.Exports.Tabled.{tabled}
 use Rattle.fit_files.specs.declared.fault.ReportFault.{ReportFault}
 use Rattle.fit_words.specs.Shown.{shown_text}
 use Rattle.fit_files.specs.Printed.Summary.{summary_text}
+use Rattle.fit_commands.specs.Reading.{IsRead}
 use Rattle.fit_commands.specs.Reported.{SumsUpNamed}
 use Rattle.fit_commands.specs.declared.fault.Fault.{Fault}
 use Rattle.fit_commands.specs.declared.fault.Fault.TheVariants as faults
@@ -53,22 +54,24 @@ refused_by (Ok summary) = 0
 refused_by (Err fault) = 1
 
 -- each of these files was summed up, the text has a line for each, in order, and so many were refused
-abbrev pub AreFoundLines : (json : Bool) → List FoundFile → List ℕ → ℕ → Type 0
-AreFoundLines json [] text refused = (text ≡ []) × (refused ≡ 0)
-AreFoundLines json (file ∷ files) text refused =
-    (line : List ℕ) × (others : List ℕ) × (more : ℕ) × SumsUpNamed file.name file.found
+abbrev pub AreFoundLines : (json : Bool) → (List ℕ → Option (List ℕ)) → List FoundFile → List ℕ → ℕ → Type 0
+AreFoundLines json held [] text refused = (text ≡ []) × (refused ≡ 0)
+AreFoundLines json held (file ∷ files) text refused =
+    (line : List ℕ) × (others : List ℕ) × (more : ℕ)
+    × SumsUpNamed (held file.name.now) file.name file.found
     × IsFoundLine json file.name.now file.found line × (text ≡ line ++ others)
-    × (refused ≡ refused_by file.found + more) × AreFoundLines json files others more
+    × (refused ≡ refused_by file.found + more) × AreFoundLines json held files others more
 
 -- The lines of the files of these names were printed, and so many refused. After an Err those of the first of them, of which the last may
 -- be cut off.
-abbrev pub ChecksAll : (json : Bool) → List (List ℕ) → Option (List ℕ) → Option (List ℕ) → Result ℕ Fault → Type 0
-ChecksAll json names old new (Ok refused) =
+abbrev pub ChecksAll : (json : Bool) → (List ℕ → Option (List ℕ)) → List (List ℕ) → Option (List ℕ)
+    → Option (List ℕ) → Result ℕ Fault → Type 0
+ChecksAll json held names old new (Ok refused) =
     (files : List FoundFile) × (text : List ℕ) × (map name_of files ≡ names)
-    × AreFoundLines json files text refused × Appends old new text
-ChecksAll json names old new (Err fault) =
+    × AreFoundLines json held files text refused × Appends old new text
+ChecksAll json held names old new (Err fault) =
     (files : List FoundFile) × (others : List (List ℕ)) × (text : List ℕ) × (refused : ℕ)
-    × (names ≡ map name_of files ++ others) × AreFoundLines json files text refused
+    × (names ≡ map name_of files ++ others) × AreFoundLines json held files text refused
     × AppendsBeginning old new text
 
 -- These are the names that some words stand for: each word itself, but for `-`, which stands for any names.
@@ -80,15 +83,16 @@ AreNamesOf (word ∷ words) names =
 
 -- The lines of all files that these words name were printed, and none was refused, or the fault has the number of those that were. After
 -- another fault those of the first of them, of which the last may be cut off.
-abbrev pub ChecksEach : (json : Bool) → List (List ℕ) → Option (List ℕ) → Option (List ℕ)
-    → Result (Unit {0}) Fault → Type 0
-ChecksEach json words old new (Ok done) =
-    (names : List (List ℕ)) × AreNamesOf words names × ChecksAll json names old new (Ok 0)
-ChecksEach json words old new (Err fault) =
+abbrev pub ChecksEach : (json : Bool) → (List ℕ → Option (List ℕ)) → List (List ℕ) → Option (List ℕ)
+    → Option (List ℕ) → Result (Unit {0}) Fault → Type 0
+ChecksEach json held words old new (Ok done) =
+    (names : List (List ℕ)) × AreNamesOf words names × ChecksAll json held names old new (Ok 0)
+ChecksEach json held words old new (Err fault) =
     (IsStopped fault × (new ≡ old))
     ⊎ ((names : List (List ℕ)) × AreNamesOf words names
-    × (((refused : ℕ) × (fault ≡ faults.Refused refused) × (0 < refused) × ChecksAll json names old new (Ok refused))
-    ⊎ (IsStopped fault × ChecksAll json names old new (Err fault))))
+    × (((refused : ℕ) × (fault ≡ faults.Refused refused) × (0 < refused)
+    × ChecksAll json held names old new (Ok refused))
+    ⊎ (IsStopped fault × ChecksAll json held names old new (Err fault))))
 
 -- ---- tables
 
@@ -96,17 +100,17 @@ ChecksEach json words old new (Err fault) =
 abbrev pub name_cell : List ℕ → List ℕ
 name_cell name = codes "\"" ++ flat_map (byte_cell true) name ++ codes "\","
 
--- the lines of the table of a file under a name were written, or the file is left out; after an Err they are cut off
-abbrev pub AddsTable : Layout → List ℕ → Option (List ℕ) → Option (List ℕ) → Result Bool Fault
+-- the lines of the table of the file of this name, which holds this, were written, or the file is left out; after an Err they are cut off
+abbrev pub AddsTable : Layout → Option (List ℕ) → List ℕ → Option (List ℕ) → Option (List ℕ) → Result Bool Fault
     → Type 0
-AddsTable layout name old new (Ok true) =
-    (bytes : List ℕ) × (file : FileValue) × FileOf bytes file
+AddsTable layout held name old new (Ok true) =
+    (bytes : List ℕ) × IsRead held bytes × (file : FileValue) × FileOf bytes file
     × WritesTokens {T = Unit {0}} {E = ReportFault} old new (Ok (tt {0}))
     (tabled layout (Some (name_cell name)) file)
-AddsTable layout name old new (Ok false) = new ≡ old
-AddsTable layout name old new (Err fault) =
+AddsTable layout held name old new (Ok false) = new ≡ old
+AddsTable layout held name old new (Err fault) =
     (new ≡ old)
-    ⊎ ((bytes : List ℕ) × (file : FileValue) × FileOf bytes file × (why : ReportFault)
+    ⊎ ((bytes : List ℕ) × IsRead held bytes × (file : FileValue) × FileOf bytes file × (why : ReportFault)
     × WritesTokens {T = Unit {0}} {E = ReportFault} old new (Err why)
     (tabled layout (Some (name_cell name)) file))
 
@@ -115,32 +119,34 @@ abbrev pub left_out_by : Bool → ℕ
 left_out_by true = 0
 left_out_by false = 1
 
-abbrev pub AddsTables : Layout → List (List ℕ) → Option (List ℕ) → Option (List ℕ) → ℕ → Type 0
-AddsTables layout [] old new left_out = (new ≡ old) × (left_out ≡ 0)
-AddsTables layout (name ∷ names) old new left_out =
-    (mid : Option (List ℕ)) × (added : Bool) × (more : ℕ) × AddsTable layout name old mid (Ok added)
-    × (left_out ≡ left_out_by added + more) × AddsTables layout names mid new more
+abbrev pub AddsTables : Layout → (List ℕ → Option (List ℕ)) → List (List ℕ) → Option (List ℕ) → Option (List ℕ) → ℕ
+    → Type 0
+AddsTables layout held [] old new left_out = (new ≡ old) × (left_out ≡ 0)
+AddsTables layout held (name ∷ names) old new left_out =
+    (mid : Option (List ℕ)) × (added : Bool) × (more : ℕ)
+    × AddsTable layout (held name) name old mid (Ok added)
+    × (left_out ≡ left_out_by added + more) × AddsTables layout held names mid new more
 
 -- all of them; after an Err the first ones, and the next one cut off
-abbrev pub TablesAll : Layout → List (List ℕ) → Option (List ℕ) → Option (List ℕ) → Result ℕ Fault
-    → Type 0
-TablesAll layout names old new (Ok left_out) = AddsTables layout names old new left_out
-TablesAll layout names old new (Err fault) =
+abbrev pub TablesAll : Layout → (List ℕ → Option (List ℕ)) → List (List ℕ) → Option (List ℕ) → Option (List ℕ)
+    → Result ℕ Fault → Type 0
+TablesAll layout held names old new (Ok left_out) = AddsTables layout held names old new left_out
+TablesAll layout held names old new (Err fault) =
     (some : List (List ℕ)) × (name : List ℕ) × (others : List (List ℕ)) × (mid : Option (List ℕ))
-    × (left_out : ℕ) × (names ≡ some ++ name ∷ others) × AddsTables layout some old mid left_out
-    × AddsTable layout name mid new (Err fault)
+    × (left_out : ℕ) × (names ≡ some ++ name ∷ others) × AddsTables layout held some old mid left_out
+    × AddsTable layout (held name) name mid new (Err fault)
 
 -- The first line and those of the files that these words name were written, and none is left out, or the fault has the number of those that
 -- are. After another fault it is cut off.
-abbrev pub TablesEach : Layout → List (List ℕ) → Option (List ℕ) → Option (List ℕ)
-    → Result (Unit {0}) Fault → Type 0
-TablesEach layout words old new (Ok done) =
+abbrev pub TablesEach : Layout → (List ℕ → Option (List ℕ)) → List (List ℕ) → Option (List ℕ)
+    → Option (List ℕ) → Result (Unit {0}) Fault → Type 0
+TablesEach layout held words old new (Ok done) =
     (names : List (List ℕ)) × AreNamesOf words names × (mid : Option (List ℕ))
-    × Appends old mid (head_of layout (codes "file,")) × TablesAll layout names mid new (Ok 0)
-TablesEach layout words old new (Err fault) =
+    × Appends old mid (head_of layout (codes "file,")) × TablesAll layout held names mid new (Ok 0)
+TablesEach layout held words old new (Err fault) =
     (IsStopped fault × ((new ≡ old) ⊎ AppendsBeginning old new (head_of layout (codes "file,"))))
     ⊎ ((names : List (List ℕ)) × AreNamesOf words names × (mid : Option (List ℕ))
     × Appends old mid (head_of layout (codes "file,"))
     × (((left_out : ℕ) × (fault ≡ faults.Refused left_out) × (0 < left_out)
-    × TablesAll layout names mid new (Ok left_out))
-    ⊎ (IsStopped fault × TablesAll layout names mid new (Err fault))))
+    × TablesAll layout held names mid new (Ok left_out))
+    ⊎ (IsStopped fault × TablesAll layout held names mid new (Err fault))))

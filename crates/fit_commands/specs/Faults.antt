@@ -1,5 +1,5 @@
 -- The program's faults for the faults of the libraries below it, and which faults each subcommand may report.
-use Rattle.std.specs.Prelude.{◌≡◌, ◌<◌, ◌⊎◌, ℕ, Bool, true, false, List, Option, Some, None, Result, Ok, Err, codes}
+use Rattle.std.specs.Prelude.{◌≡◌, ◌<◌, ◌⊎◌, ℕ, Bool, true, false, List, Option, Some, None, Result, Ok, Err, codes, vec_len}
 use Rattle.std.specs.Borrow.{Bor}
 use Rattle.fit_activity.specs.declared.activity.ActivityFault.TheVariants as activities
 use Rattle.fit_disk.specs.declared.files.OpenFault.{OpenFault}
@@ -16,6 +16,7 @@ use Rattle.fit_words.specs.declared.request.SalvageForm.{SalvageForm}
 use Rattle.fit_commands.specs.Reading.{IsFileFault, fault_of_read}
 use Rattle.fit_commands.specs.declared.fault.Fault.{Fault}
 use Rattle.fit_commands.specs.declared.fault.Fault.TheVariants as faults
+use Rattle.fit_files.specs.declared.reading.FrontRead.{FrontRead}
 
 -- for a folder of this name that is not opened
 abbrev pub fault_of_open : Bor (List ℕ) → OpenFault → Fault
@@ -42,6 +43,11 @@ abbrev pub IsRepairReported : RepairFault → Fault → Type 0
 IsRepairReported (repairs.Recorder fault) reported = reported ≡ faults.Recorder fault
 IsRepairReported repairs.Output (faults.Write name) = name.now ≡ codes "-"
 IsRepairReported repairs.Output _ = ⊥
+
+-- the output failed; its name is `-`
+abbrev pub IsOutputReported : Fault → Type 0
+IsOutputReported (faults.Write name) = name.now ≡ codes "-"
+IsOutputReported _ = ⊥
 
 -- the program's result for the result of a repair
 abbrev pub AnswersRepair : {T : Type 0} → Result T RepairFault → Result T Fault → Type 0
@@ -85,26 +91,15 @@ abbrev pub IsLackReported : Bor (List ℕ) → Fault → Type 0
 IsLackReported folder (faults.NothingSaved lack) = Unit {0}
 IsLackReported folder reported = IsRecordingReported folder reported
 
--- of recovering the ride of a recording in memory
-abbrev pub IsRideReported : Fault → Type 0
-IsRideReported (faults.Recorder Damaged) = Unit {0}
-IsRideReported (faults.NothingSaved lack) = Unit {0}
-IsRideReported faults.Changed = Unit {0}
-IsRideReported faults.TooLarge = Unit {0}
-IsRideReported faults.NoMemory = Unit {0}
-IsRideReported _ = ⊥
-
--- the same of a folder of this name, whose files are read before
-abbrev pub IsSavedReported : Bor (List ℕ) → Fault → Type 0
-IsSavedReported folder (faults.Recorder Damaged) = Unit {0}
-IsSavedReported folder faults.Changed = Unit {0}
-IsSavedReported folder (faults.BodyNotRead at) = Unit {0}
-IsSavedReported folder reported = IsLackReported folder reported
-
--- of saving the ride of a folder in a file of these names
-abbrev pub IsSaveReported : Bor (List ℕ) → Bor (List ℕ) → Fault → Type 0
-IsSaveReported folder out (faults.Write name) = (name ≡ out) ⊎ (name.now ≡ codes "-")
-IsSaveReported folder out reported = IsSavedReported folder reported
+-- of recovering the ride of a recording in memory, of whose data file this was read
+abbrev pub IsRideReported : FrontRead → Fault → Type 0
+IsRideReported read (faults.BodyNotRead at) = (read.is_whole ≡ false) × (at ≡ vec_len read.bytes)
+IsRideReported read (faults.Recorder Damaged) = Unit {0}
+IsRideReported read (faults.NothingSaved lack) = Unit {0}
+IsRideReported read faults.Changed = Unit {0}
+IsRideReported read faults.TooLarge = Unit {0}
+IsRideReported read faults.NoMemory = Unit {0}
+IsRideReported read _ = ⊥
 
 -- of writing a file of this name
 abbrev pub IsNotWritten : Bor (List ℕ) → Fault → Type 0
@@ -126,14 +121,15 @@ IsNotFinishedReported faults.NoSample = Unit {0}
 IsNotFinishedReported faults.TooLarge = Unit {0}
 IsNotFinishedReported _ = ⊥
 
--- of writing what is kept in this form to a file of this name: there is no plain form, it is not finished, or it was not written
-abbrev pub IsNotMade : SalvageForm → Bor (List ℕ) → Fault → Type 0
-IsNotMade form out (faults.File fault) = (form.plain ≡ true) ⊎ (form.finish ≡ true)
-IsNotMade form out (faults.Plain fault) = form.plain ≡ true
-IsNotMade form out (faults.Activity fault) = form.finish ≡ true
-IsNotMade form out faults.NoSample = form.finish ≡ true
-IsNotMade form out faults.TooLarge = form.finish ≡ true
-IsNotMade form out reported = IsNotWritten out reported
+-- of putting what is kept into this form: there is no plain form, it is not finished, or memory was refused
+abbrev pub IsNotMade : SalvageForm → Fault → Type 0
+IsNotMade form (faults.File fault) = (form.plain ≡ true) ⊎ (form.finish ≡ true)
+IsNotMade form (faults.Plain fault) = form.plain ≡ true
+IsNotMade form (faults.Activity fault) = form.finish ≡ true
+IsNotMade form faults.NoSample = form.finish ≡ true
+IsNotMade form faults.TooLarge = form.finish ≡ true
+IsNotMade form faults.NoMemory = (form.plain ≡ true) ⊎ (form.finish ≡ true)
+IsNotMade form _ = ⊥
 
 -- of keeping nothing of a file of this name, which begins with no header; going on after its faults takes memory
 abbrev pub IsNothingKept : Bool → Bor (List ℕ) → Fault → Type 0
@@ -141,41 +137,6 @@ IsNothingKept skip file (faults.Read name) = name ≡ file
 IsNothingKept skip file (faults.File fault) = Unit {0}
 IsNothingKept skip file faults.NoMemory = skip ≡ true
 IsNothingKept skip file _ = ⊥
-
--- of salvaging a file into another: one was not opened, read or written, the first is not a file, or the output failed; or there is no
--- plain form, or it is not finished
-abbrev pub IsSalvageReported : SalvageForm → Bor (List ℕ) → Bor (List ℕ) → Fault → Type 0
-IsSalvageReported form file out (faults.Open name) = name ≡ file
-IsSalvageReported form file out (faults.Read name) = name ≡ file
-IsSalvageReported form file out (faults.Write name) = (name ≡ out) ⊎ (name.now ≡ codes "-")
-IsSalvageReported form file out faults.TooLarge = Unit {0}
-IsSalvageReported form file out faults.NoMemory = Unit {0}
-IsSalvageReported form file out (faults.File fault) = Unit {0}
-IsSalvageReported form file out (faults.Plain fault) = form.plain ≡ true
-IsSalvageReported form file out (faults.Activity fault) = form.finish ≡ true
-IsSalvageReported form file out faults.NoSample = form.finish ≡ true
-IsSalvageReported form file out _ = ⊥
-
--- of making the plain form of a file: it was not opened or read, it is not a file, or its plain form was not made
-abbrev pub IsFormReported : Bor (List ℕ) → Fault → Type 0
-IsFormReported file (faults.Open name) = name ≡ file
-IsFormReported file (faults.Read name) = name ≡ file
-IsFormReported file faults.TooLarge = Unit {0}
-IsFormReported file faults.NoMemory = Unit {0}
-IsFormReported file (faults.File fault) = Unit {0}
-IsFormReported file (faults.Plain fault) = Unit {0}
-IsFormReported file _ = ⊥
-
--- of writing the plain form of a file into another
-abbrev pub IsPlainReported : Bor (List ℕ) → Bor (List ℕ) → Fault → Type 0
-IsPlainReported file out (faults.Open name) = name ≡ file
-IsPlainReported file out (faults.Read name) = name ≡ file
-IsPlainReported file out (faults.Write name) = (name ≡ out) ⊎ (name.now ≡ codes "-")
-IsPlainReported file out faults.TooLarge = Unit {0}
-IsPlainReported file out faults.NoMemory = Unit {0}
-IsPlainReported file out (faults.File fault) = Unit {0}
-IsPlainReported file out (faults.Plain fault) = Unit {0}
-IsPlainReported file out _ = ⊥
 
 -- of taking the definitions of a file: the file of this name was not opened or read, or is no file
 abbrev pub IsNoLike : Option (Bor (List ℕ)) → Fault → Type 0
@@ -200,13 +161,3 @@ IsNotFound all (faults.TooManyFiles count) = (all ≡ false) × (1000 < count)
 IsNotFound all faults.TooManyHeaders = all ≡ true
 IsNotFound all faults.NoMemory = Unit {0}
 IsNotFound all _ = ⊥
-
--- of writing the files of one into a folder, which has a name
-abbrev pub IsSplitReported : Bor (List ℕ) → Bor (List ℕ) → Bool → Fault → Type 0
-IsSplitReported file folder all (faults.Open name) = (name ≡ file) ⊎ (name ≡ folder)
-IsSplitReported file folder all (faults.Read name) = name ≡ file
-IsSplitReported file folder all (faults.NoFile name) = name ≡ file
-IsSplitReported file folder all faults.TooLarge = Unit {0}
-IsSplitReported file folder all (faults.TooManyFiles count) = (all ≡ false) × (1000 < count)
-IsSplitReported file folder all faults.TooManyHeaders = all ≡ true
-IsSplitReported file folder all reported = IsPartReported folder reported

@@ -1,7 +1,7 @@
 pub mod Reading
 pub mod Faults
 pub mod Reported
-pub mod Places
+pub mod Written
 pub mod Chosen
 pub mod Each
 pub mod Shifted

@@ -1,12 +1,26 @@
--- The program's faults for an input that was not read.
-use Rattle.std.specs.Prelude.{◌≡◌, ℕ, List, ◌++◌, Option, codes, decimal}
+-- What was read of a file, and the program's faults for one that was not read.
+use Rattle.std.specs.Prelude.{◌≡◌, ℕ, List, ◌++◌, Option, codes, decimal, if◌then◌else◌}
+use Rattle.std.specs.Str.{bytes_eq}
 use Rattle.std.specs.Borrow.{Bor}
 use Rattle.fit_files.specs.declared.reading.ReadFault.{ReadFault}
 use Rattle.fit_files.specs.declared.reading.ReadFault.TheVariants.{Failed, TooLarge, NoMemory}
-use Rattle.fit_files.specs.Calls.Reading.{Refuses}
+use Rattle.fit_files.specs.declared.reading.FrontRead.{FrontRead}
+use Rattle.fit_files.specs.Calls.Reading.{ReadsAll, ReadsFront, Refuses}
 use Rattle.fit_commands.specs.declared.fault.Fault.{Fault}
 use Rattle.fit_commands.specs.declared.fault.Fault.TheVariants as faults
 use Rattle.fit_words.specs.Shown.{shown_text}
+
+-- all bytes of a file that holds this, if that is known, were read
+abbrev pub IsRead : Option (List ℕ) → List ℕ → Type 0
+IsRead held bytes = (left : Option (List ℕ)) × ReadsAll 268435456 held left bytes
+
+-- its bytes up to its end, or to the first place that could not be read
+abbrev pub IsReadFront : Option (List ℕ) → FrontRead → Type 0
+IsReadFront held read = (left : Option (List ℕ)) × ReadsFront 268435456 held left read
+
+-- what the file of this name holds, or standard input gives if it is `-`
+abbrev pub held_or_given : List ℕ → Option (List ℕ) → Option (List ℕ) → Option (List ℕ)
+held_or_given name held given = if bytes_eq name (codes "-") then given else held
 
 -- the program's fault for an input of this name
 abbrev pub fault_of_read : Bor (List ℕ) → ReadFault → Fault

@@ -1,5 +1,5 @@
 -- What a whole subcommand did: what it printed, and which fault it reports if it failed.
-use Rattle.std.specs.Prelude.{◌≡◌, ◌⊎◌, ◌≤◌, ℕ, Bool, true, false, List, [], ◌++◌, length, map, Option, Some, None, Result, Ok, Err, codes, decimal, if◌then◌else◌}
+use Rattle.std.specs.Prelude.{◌≡◌, ◌⊎◌, ◌≤◌, ℕ, Bool, true, false, List, [], ◌∷◌, ◌++◌, length, map, Option, Some, None, Result, Ok, Err, OnOk, codes, decimal, if◌then◌else◌, IfErr}
 use Rattle.std.specs.Borrow.{Bor}
 use Rattle.std.specs.Io.KnownBytes.{Appends}
 use Rattle.fit_activity.specs.declared.activity.Summary.{Summary}
@@ -7,8 +7,6 @@ use Rattle.fit_disk.specs.State.{Contents, seen_in}
 use Rattle.fit_disk.specs.Story.{Story}
 use Rattle.fit_grammar.specs.Calls.Output.{AppendsBeginning}
 use Rattle.fit_grammar.specs.Format.File.{FileValue, FileOf}
-use Rattle.fit_grammar.specs.Format.Message.{messages_of}
-use Rattle.std.specs.Result.{IsErr}
 use Rattle.fit_mending.specs.declared.chained.Part.{Part}
 use Rattle.fit_mending.specs.Chained.{AreChained, AreNumbered}
 use Rattle.fit_mending.specs.Known.{IsKnownBy}
@@ -18,11 +16,15 @@ use Rattle.fit_commands.specs.declared.like.Like.{Like}
 use Rattle.fit_mending.specs.Found.{AreFound}
 use Rattle.fit_files.specs.declared.salvage.Salvage.{Salvage}
 use Rattle.fit_recordings.specs.declared.saving.SavedRide.{SavedRide}
-use Rattle.fit_files.specs.Calls.Reading.{ReadsAll}
+use Rattle.fit_files.specs.declared.reading.FrontRead.{FrontRead}
+use Rattle.fit_grammar.specs.Format.Encoding.{encoded}
+use Rattle.fit_places.specs.NamedFiles.{ReplacesNamed}
+use Rattle.fit_recorder.specs.Files.Changed.{HasChanged}
+use Rattle.fit_recorder.specs.Files.Earlier.{without_last}
 use Rattle.fit_recordings.specs.Rereading.{AreSumsOf}
 use Rattle.fit_files.specs.Printed.Mended.{IsMended}
 use Rattle.fit_files.specs.Printed.Parts.{AreLines}
-use Rattle.fit_files.specs.Printed.PlainFile.{PlainsTo, messages_text}
+use Rattle.fit_files.specs.Printed.PlainFile.{PlainsTo}
 use Rattle.fit_files.specs.Printed.Kept.{IsRowOf, heard_line, kept_lines}
 use Rattle.fit_recordings.specs.Repaired.{Repairs}
 use Rattle.fit_files.specs.Printed.Salvaged.{IsSalvage, saved_file}
@@ -30,52 +32,37 @@ use Rattle.fit_recordings.specs.Saved.{SavesRide}
 use Rattle.fit_files.specs.Printed.Summary.{summary_text}
 use Rattle.fit_files.specs.Printed.Checked.{SumsUp}
 use Rattle.fit_finishing.specs.declared.finishing.Finishing.{Finishing}
-use Rattle.fit_finishing.specs.Finished.{IsFinishing}
+use Rattle.fit_finishing.specs.Finished.{IsFinishing, finished_by}
 use Rattle.fit_files.specs.declared.kept.Heard.{Heard}
 use Rattle.fit_files.specs.declared.kept.Kept.{Kept}
 use Rattle.fit_files.specs.declared.kept.Kept.TheVariants.{Front, Pieces}
-use Rattle.fit_files.specs.declared.fault.ReportFault.{ReportFault}
 use Rattle.fit_recordings.specs.declared.repairing.FileSums.{FileSums}
 use Rattle.fit_recordings.specs.declared.repairing.RepairFault.{RepairFault}
 use Rattle.fit_recordings.specs.declared.repairing.RepairFault.TheVariants as repairs
-use Rattle.fit_commands.specs.Faults.{IsRecordingReported, IsRepairReported, IsReportFault}
-use Rattle.fit_commands.specs.Reading.{IsFileFault}
+use Rattle.fit_commands.specs.Faults.{IsRecordingReported, IsRepairReported, IsReportFault, IsOutputReported, IsNoLike, IsNothingKept, IsOfWhole, IsNotMade, IsNotFound, IsPartReported, IsLackReported, IsRideReported}
+use Rattle.fit_commands.specs.Reading.{IsFileFault, IsRead, IsReadFront}
 use Rattle.fit_commands.specs.declared.fault.Fault.{Fault}
 use Rattle.fit_commands.specs.declared.fault.Fault.TheVariants as faults
 
--- `IsResult` holds of the bytes of a file of this name and the result, and the program's fault is one for a fault of that; or the file
--- was not opened or not read, and nothing is printed.
-abbrev pub ReportsRun : {F : Type 0} → Bor (List ℕ) → Option (List ℕ) → Option (List ℕ)
+-- `IsResult` holds of the bytes of the file of this name, which holds this, and the result, and the program's fault is one for a fault of
+-- that; or the file was not opened or not read, and nothing is printed.
+abbrev pub ReportsRun : {T F : Type 0} → Option (List ℕ) → Bor (List ℕ) → Option (List ℕ) → Option (List ℕ)
     → (F → Fault → Type 0)
-    → (List ℕ → Result (Unit {0}) F → Type 0) → Result (Unit {0}) Fault → Type 0
-ReportsRun {F} name old new IsReported IsResult (Ok done) =
-    (bytes : List ℕ) × (length bytes ≤ 268435456) × IsResult bytes (Ok done)
-ReportsRun {F} name old new IsReported IsResult (Err reported) =
+    → (List ℕ → Result T F → Type 0) → Result T Fault → Type 0
+ReportsRun {T} {F} held name old new IsReported IsResult (Ok done) =
+    (bytes : List ℕ) × IsRead held bytes × IsResult bytes (Ok done)
+ReportsRun {T} {F} held name old new IsReported IsResult (Err reported) =
     (IsFileFault name reported × (new ≡ old))
-    ⊎ ((why : F) × IsReported why reported × (bytes : List ℕ) × (length bytes ≤ 268435456)
+    ⊎ ((why : F) × IsReported why reported × (bytes : List ℕ) × IsRead held bytes
     × IsResult bytes (Err why))
 
--- the summary of a file of this name; or why it is no activity, or was not opened or not read
-abbrev pub SumsUpNamed : Bor (List ℕ) → Result Summary Fault → Type 0
-SumsUpNamed name (Ok summary) =
-    (bytes : List ℕ) × (length bytes ≤ 268435456) × SumsUp bytes (Ok summary)
-SumsUpNamed name (Err reported) =
-    IsFileFault name reported
-    ⊎ ((why : ReportFault) × IsReportFault name why reported × (bytes : List ℕ)
-    × (length bytes ≤ 268435456) × SumsUp bytes (Err why))
-
--- the output failed; its name is `-`
-abbrev pub IsOutputReported : Fault → Type 0
-IsOutputReported (faults.Write name) = name.now ≡ codes "-"
-IsOutputReported _ = ⊥
+-- the summary of the file of this name, which holds this; or why it is no activity, or was not opened or not read
+abbrev pub SumsUpNamed : Option (List ℕ) → Bor (List ℕ) → Result Summary Fault → Type 0
+SumsUpNamed held name found = ReportsRun held name None None (IsReportFault name) SumsUp found
 
 -- nothing is printed, unless the output failed
 abbrev pub PrintsNothing : Option (List ℕ) → Option (List ℕ) → Fault → Type 0
 PrintsNothing old new fault = IsOutputReported fault ⊎ (new ≡ old)
-
--- the file of the readable part has a plain form
-abbrev pub HasPlainForm : Salvage → Type 0
-HasPlainForm salvage = (plain : FileValue) × PlainsTo (saved_file salvage) (Ok plain)
 
 -- the file of the readable part, or its plain form
 pub record IsFormOf (plain : Bool) (salvage : Salvage) (file : FileValue) : Type 0 where
@@ -91,12 +78,19 @@ heard_of finishing =
       has_new_file_id = finishing.lacks.file_id;
     }
 
--- it is written in this form: as it is or as its plain form, and with the messages that it lacks if something was heard
-abbrev pub IsMade : SalvageForm → Salvage → Option Heard → Type 0
-IsMade form salvage None = (form.finish ≡ false) × (form.plain ≡ true → HasPlainForm salvage)
-IsMade form salvage (Some heard) =
+-- the bytes of the readable part, or of its plain form
+abbrev pub IsWrittenForm : Bool → Salvage → List ℕ → Type 0
+IsWrittenForm false salvage bytes = bytes ≡ saved_file salvage
+IsWrittenForm true salvage bytes =
+    (plain : FileValue) × PlainsTo (saved_file salvage) (Ok plain) × (bytes ≡ encoded plain)
+
+-- it is written in this form, as these bytes: as it is or as its plain form, and with the messages that it lacks if something was heard
+abbrev pub IsMade : SalvageForm → Salvage → Option Heard → List ℕ → Type 0
+IsMade form salvage None bytes = (form.finish ≡ false) × IsWrittenForm form.plain salvage bytes
+IsMade form salvage (Some heard) bytes =
     (form.finish ≡ true) × (file : FileValue) × IsFormOf form.plain salvage file
     × (finishing : Finishing) × IsFinishing file finishing × (heard ≡ heard_of finishing)
+    × (bytes ≡ encoded (finished_by file finishing))
 
 -- what is kept of some bytes: the longest row of whole items, or what is found by going on after their faults, after what is known
 abbrev pub IsKeptOf : SalvageForm → List ℕ → List ℕ → Kept → Type 0
@@ -108,11 +102,11 @@ abbrev pub like_name : SalvageForm → Option (Bor (List ℕ))
 like_name form = if form.skip then form.like else None
 
 -- the definitions of the file of this name, if there is one
-abbrev pub IsLike : Option (Bor (List ℕ)) → Option Like → Type 0
-IsLike None None = Unit {0}
-IsLike (Some name) (Some like) =
-    (like.name ≡ name) × (file : List ℕ) × (length file ≤ 268435456) × IsKnownBy file like.known
-IsLike _ _ = ⊥
+abbrev pub IsLike : (List ℕ → Option (List ℕ)) → Option (Bor (List ℕ)) → Option Like → Type 0
+IsLike held None None = Unit {0}
+IsLike held (Some name) (Some like) =
+    (like.name ≡ name) × (bytes : List ℕ) × IsRead (held name.now) bytes × IsKnownBy bytes like.known
+IsLike held _ _ = ⊥
 
 -- their bytes, and the line with their number
 abbrev pub known_row : Option Like → List ℕ
@@ -127,16 +121,35 @@ abbrev pub like_text : Option Like → List ℕ
 like_text None = []
 like_text (Some like) = count_text like.name.now like.known.count
 
--- what is kept of some bytes was found, after the definitions of a file if one was named, and it has the form asked for; what was kept,
--- left out and heard was printed
-abbrev pub SavesFile : SalvageForm → Option (List ℕ) → Option (List ℕ) → Type 0
-SavesFile form old new =
-    (like : Option Like) × IsLike (like_name form) like
-    × (bytes : List ℕ) × (length bytes ≤ 268435456) × (kept : Kept)
-    × IsKeptOf form (known_row like) bytes kept
-    × (salvage : Salvage) × IsRowOf kept salvage
-    × (heard : Option Heard) × IsMade form salvage heard
-    × Appends old new ((kept_lines kept ++ heard_line heard) ++ like_text like)
+-- What is written of a damaged file, and printed: the definitions that were known, what was kept, and what was heard of that.
+pub record Salvaged : Type 0 where
+  pub like : Option Like
+  pub kept : Kept
+  pub heard : Option Heard
+  pub bytes : List ℕ
+
+-- What is kept of the readable bytes of the file of this name was found, after the definitions of a file if one was named, and put into the
+-- form asked for. Or, in this order: there are no such definitions, the file was not read, nothing of it is kept, or it has no such form.
+abbrev pub SalvagesNamed : SalvageForm → (List ℕ → Option (List ℕ)) → Bor (List ℕ) → Result Salvaged Fault → Type 0
+SalvagesNamed form held name (Ok salvaged) =
+    IsLike held (like_name form) salvaged.like
+    × (read : FrontRead) × IsReadFront (held name.now) read
+    × IsKeptOf form (known_row salvaged.like) read.bytes.items salvaged.kept
+    × (salvage : Salvage) × IsRowOf salvaged.kept salvage
+    × IsMade form salvage salvaged.heard salvaged.bytes
+SalvagesNamed form held name (Err fault) =
+    IsNoLike (like_name form) fault
+    ⊎ ((like : Option Like) × IsLike held (like_name form) like
+    × (IsFileFault name fault
+    ⊎ ((read : FrontRead) × IsReadFront (held name.now) read
+    × ((IsNothingKept form.skip name fault × IsOfWhole read.is_whole fault)
+    ⊎ ((kept : Kept) × IsKeptOf form (known_row like) read.bytes.items kept × IsNotMade form fault)))))
+
+-- its bytes, and the lines of what was kept, left out and heard
+abbrev pub IsSalvagedOut : Salvaged → List ℕ → List ℕ → Type 0
+IsSalvagedOut salvaged bytes text =
+    (bytes ≡ salvaged.bytes)
+    × (text ≡ (kept_lines salvaged.kept ++ heard_line salvaged.heard) ++ like_text salvaged.like)
 
 -- a line was printed for each of these files; after an Err, for the first of them, of which the last line may be cut off
 abbrev pub PrintsLines : List Part → Option (List ℕ) → Option (List ℕ)
@@ -156,26 +169,44 @@ abbrev pub AreNotTooMany : Bool → List Part → Type 0
 AreNotTooMany false parts = length parts ≤ 1000
 AreNotTooMany true parts = Unit {0}
 
--- no file is chained in some bytes, or with `all` none stands in them
-abbrev pub HasNoParts : Bool → Type 0
-HasNoParts all = (bytes : List ℕ) × (length bytes ≤ 268435456) × AreParts all bytes []
+-- the name of a part in a folder
+abbrev pub part_name : List ℕ → Part → List ℕ
+part_name folder part = folder ++ (codes "/" ++ (decimal part.number ++ codes ".fit"))
 
--- The files of some bytes were found, one or more, and a line printed for each that was written. Else nothing is printed.
-abbrev pub SplitsFile : Bool → Option (List ℕ) → Option (List ℕ) → Result (Unit {0}) Fault → Type 0
-SplitsFile all old new result =
-    ((bytes : List ℕ) × (length bytes ≤ 268435456) × (parts : List Part) × AreParts all bytes parts
-    × (1 ≤ length parts) × AreNotTooMany all parts × PrintsLines parts old new result)
-    ⊎ (IsErr result × (new ≡ old))
+-- these files were written into the folder, one after another
+abbrev pub WritesParts : List ℕ → List Part → (List ℕ → Option (List ℕ)) → (List ℕ → Option (List ℕ))
+    → Type 0
+WritesParts folder [] old new = (name : List ℕ) → new name ≡ old name
+WritesParts folder (part ∷ parts) old new =
+    (mid : List ℕ → Option (List ℕ)) × ReplacesNamed (part_name folder part) part.bytes.now old mid
+    × WritesParts folder parts mid new
 
--- it is the plain form of a file of some bytes
-abbrev pub IsFormOfFile : FileValue → Type 0
-IsFormOfFile plain = (bytes : List ℕ) × (length bytes ≤ 268435456) × PlainsTo bytes (Ok plain)
+-- The files of the bytes of the file of this name were not found: it was not read, the folder has no name, they are too many, or none.
+abbrev pub IsNotSplit : Bool → Option (List ℕ) → Bor (List ℕ) → Bor (List ℕ) → Fault → Type 0
+IsNotSplit all held name folder fault =
+    IsFileFault name fault
+    ⊎ ((bytes : List ℕ) × IsRead held bytes
+    × (((folder.now ≡ []) × (fault ≡ faults.Open folder))
+    ⊎ IsNotFound all fault
+    ⊎ (AreParts all bytes [] × (fault ≡ faults.NoFile name))))
 
--- the plain form of a file was made, and the number of its messages was printed
-abbrev pub PlainsFile : Option (List ℕ) → Option (List ℕ) → Type 0
-PlainsFile old new =
-    (plain : FileValue) × IsFormOfFile plain
-    × Appends old new (messages_text (length (messages_of plain.items)) ++ codes "\n")
+-- They were found, one or more, and a line printed for each that was written into the folder: after Ok for all. Or they were not, no file has
+-- changed, and nothing is printed.
+abbrev pub SplitsFile : Bool → Bor (List ℕ) → Bor (List ℕ) → (List ℕ → Option (List ℕ)) → (List ℕ → Option (List ℕ)) → Option (List ℕ)
+    → Option (List ℕ) → Result (Unit {0}) Fault → Type 0
+SplitsFile all name folder old new before after result =
+    ((fault : Fault) × (result ≡ Err fault) × IsNotSplit all (old name.now) name folder fault × (new ≡ old) × (after ≡ before))
+    ⊎ ((bytes : List ℕ) × IsRead (old name.now) bytes × (parts : List Part) × AreParts all bytes parts
+    × (1 ≤ length parts) × AreNotTooMany all parts × (1 ≤ length folder.now) × PrintsLines parts before after result
+    × OnOk result (WritesParts folder.now parts old new) × IfErr result (IsPartReported folder))
+
+-- it is the plain form of a file that holds this
+abbrev pub IsFormOfFile : Option (List ℕ) → FileValue → Type 0
+IsFormOfFile held plain = (bytes : List ℕ) × IsRead held bytes × PlainsTo bytes (Ok plain)
+
+-- the plain form of the file of this name, which holds this; or why there is none, or it was not opened or not read
+abbrev pub FormsNamed : Option (List ℕ) → Bor (List ℕ) → Result FileValue Fault → Type 0
+FormsNamed held name made = ReportsRun held name None None (IsReportFault name) PlainsTo made
 
 -- the line of a summary was printed
 abbrev pub PrintsSummary : Option (List ℕ) → Option (List ℕ) → Type 0
@@ -191,8 +222,7 @@ ReportsRepair old new (Err repairs.Output) = Unit {0}
 -- the two files of a recording were read from these inputs, each to its end, and held these contents
 abbrev pub ReadsBoth : Option (List ℕ) → Option (List ℕ) → Contents → Type 0
 ReadsBoth data_file journal_file contents =
-    ((left : Option (List ℕ)) × ReadsAll 268435456 data_file left contents.in_data)
-    × ((left : Option (List ℕ)) × ReadsAll 268435456 journal_file left contents.in_journal)
+    IsRead data_file contents.in_data × IsRead journal_file contents.in_journal
 
 -- The two files of a folder of this name were read, and what they held was repaired, and both files read again, with these checksums. Or
 -- what they held was not repaired, for the reported fault; or they were not opened or not read, and nothing is printed.
@@ -208,12 +238,31 @@ VerifiesFolder name WereRead old new (Err reported) =
     × WereRead contents × (story : Story)
     × Repairs {T = FileSums} contents story old new (Err why))
 
--- it is the saved ride of the two files of a recording
-abbrev pub IsSavedRide : SavedRide → Type 0
-IsSavedRide saved = (contents : Contents) × SavesRide contents (Ok saved)
+-- What counts of the two files of a recording: both as they are, or with `earlier` the journal without its last commit, if what that counts
+-- has changed.
+abbrev pub AreCounted : Bool → Contents → Contents → Type 0
+AreCounted earlier contents counted =
+    (counted ≡ contents)
+    ⊎ ((earlier ≡ true) × HasChanged contents × (counted ≡ without_last contents))
 
--- such a ride was saved, and the line of its summary printed
-abbrev pub SavesFolder : Option (List ℕ) → Option (List ℕ) → Type 0
-SavesFolder old new =
-    (saved : SavedRide) × IsSavedRide saved
-    × Appends old new (summary_text saved.summary ++ codes "\n")
+-- it is the saved ride of these bytes of a data file and a journal
+abbrev pub IsSavedRide : Bool → Contents → SavedRide → Type 0
+IsSavedRide earlier contents saved =
+    (counted : Contents) × AreCounted earlier contents counted × SavesRide counted (Ok saved)
+
+-- the ride of the readable bytes of a data file and of all of a journal; or the files of the folder of this name were not read, or they have
+-- no ride
+abbrev pub SavesNamed : Bool → Option (List ℕ) → Option (List ℕ) → Bor (List ℕ) → Result SavedRide Fault → Type 0
+SavesNamed earlier in_data in_journal folder (Ok saved) =
+    (read : FrontRead) × IsReadFront in_data read
+    × (journal : List ℕ) × IsRead in_journal journal
+    × IsSavedRide earlier (record { in_data = read.bytes.items; in_journal = journal }) saved
+SavesNamed earlier in_data in_journal folder (Err fault) =
+    IsLackReported folder fault
+    ⊎ ((read : FrontRead) × IsReadFront in_data read
+    × (journal : List ℕ) × IsRead in_journal journal × IsRideReported read fault)
+
+-- its file, and the line of its summary
+abbrev pub IsSavedOut : SavedRide → List ℕ → List ℕ → Type 0
+IsSavedOut saved bytes text =
+    (bytes ≡ encoded saved.file) × (text ≡ summary_text saved.summary ++ codes "\n")

@@ -14,40 +14,39 @@ use crate::input::{MOST_BYTES, fault_of_report, open_file, read_input};
 use fit_activity::Summary;
 use fit_files::{ReportFault, SummaryLine, print_checked, sum_up_input, table_head, table_input};
 use fit_grammar::Sink;
+use fit_places::NamedFiles;
 use fit_table::Layout;
 use fit_words::{Names, ShownWord, text_of_word};
 use std::alloc::{AllocError, Global};
 use std::fmt::Display;
-use std::fs;
 use std::io::Write;
-use std::rt::Files;
 
 /// Checks each file, and prints a line for it, or with `json` an object: its name, and its summary or why it is none. If some are none,
 /// the fault is `Refused` with their number.
-pub fn check_each<O: Write>(
-    rt: &HostRuntime,
+pub fn check_each<F: NamedFiles + AllocGlobal, O: Write>(
+    files: &F,
     names: &Names<'_>,
     json: bool,
     out: &mut O,
 ) -> Result<(), Fault<'static>>
-    ensures lines { ChecksEach json (map (λ word. word.now) names.now.all.items)
+    ensures lines { ChecksEach json (F.held files.now) (map (λ word. word.now) names.now.all.items)
         (O.contents out.old) (O.contents out.new) result }
 {
-    let all = all_names(rt, names)?;
-    match check_all(rt, all.as_slice(), json, out) {
+    let all = all_names(files, names)?;
+    match check_all(files, all.as_slice(), json, out) {
         Ok(refused) => none_refused(refused),
         Err(fault) => Err(fault),
     }
 }
 
 // Checks the files of these names, and prints a line for each. Returns how many are refused.
-fn check_all<O: Write>(
-    rt: &HostRuntime,
+fn check_all<F: NamedFiles + AllocGlobal, O: Write>(
+    files: &F,
     names: &[String],
     json: bool,
     out: &mut O,
 ) -> Result<usize, Fault<'static>>
-    ensures lines { ChecksAll json (map string_bytes names.now) (O.contents out.old)
+    ensures lines { ChecksAll json (F.held files.now) (map string_bytes names.now) (O.contents out.old)
         (O.contents out.new) result }
     ensures fault { IfErr result IsStopped }
 {
@@ -55,8 +54,8 @@ fn check_all<O: Write>(
     let mut rest = names;
     while let [first, more @ ..] = rest {
         let name = first.as_str();
-        let found = sum_up_file(rt, name);
-        print_found(rt.alloc(), json, name, &found, out)?;
+        let found = sum_up_file(files, name);
+        print_found(files.alloc(), json, name, &found, out)?;
         refused += refused_in(&found);
         rest = more;
     }
@@ -75,22 +74,22 @@ fn refused_in(found: &Result<Summary, Fault<'_>>) -> usize
 
 /// Prints one table of all files, the first column of which has their names. A line on `err` says why one is left out. If some are,
 /// the fault is `Refused` with their number.
-pub fn table_each<O: Write, E: Write>(
-    rt: &HostRuntime,
+pub fn table_each<F: NamedFiles + AllocGlobal, O: Write, E: Write>(
+    files: &F,
     names: &Names<'_>,
     layout: &Layout<'_>,
     out: &mut O,
     err: &mut E,
 ) -> Result<(), Fault<'static>>
     requires { length layout.now.fields.now ≤ 128 }
-    ensures lines { TablesEach layout.now (map (λ word. word.now) names.now.all.items)
+    ensures lines { TablesEach layout.now (F.held files.now) (map (λ word. word.now) names.now.all.items)
         (O.contents out.old) (O.contents out.new) result }
 {
-    let all = all_names(rt, names)?;
+    let all = all_names(files, names)?;
     let Ok(()) = table_head(layout, b"file,", out) else {
         return Err(Fault::Write("-"));
     };
-    match table_all(rt, all.as_slice(), layout, out, err) {
+    match table_all(files, all.as_slice(), layout, out, err) {
         Ok(left_out) => none_refused(left_out),
         Err(fault) => Err(fault),
     }
@@ -104,15 +103,15 @@ fn left_out_in(added: bool) -> usize
 }
 
 // Adds the lines of the files of these names to a table. Returns how many are left out.
-fn table_all<O: Write, E: Write>(
-    rt: &HostRuntime,
+fn table_all<F: NamedFiles + AllocGlobal, O: Write, E: Write>(
+    files: &F,
     names: &[String],
     layout: &Layout<'_>,
     out: &mut O,
     err: &mut E,
 ) -> Result<usize, Fault<'static>>
     requires { length layout.now.fields.now ≤ 128 }
-    ensures lines { TablesAll layout.now (map string_bytes names.now) (O.contents out.old)
+    ensures lines { TablesAll layout.now (F.held files.now) (map string_bytes names.now) (O.contents out.old)
         (O.contents out.new) result }
     ensures fault { IfErr result IsStopped }
 {
@@ -120,7 +119,7 @@ fn table_all<O: Write, E: Write>(
     let mut rest = names;
     while let [first, more @ ..] = rest {
         let name = first.as_str();
-        let added = add_table(rt, name, layout, out, err)?;
+        let added = add_table(files, name, layout, out, err)?;
         left_out += left_out_in(added);
         rest = more;
     }
@@ -139,24 +138,28 @@ fn none_refused(refused: usize) -> Result<(), Fault<'static>>
 }
 
 // The summary of the file of this name.
-fn sum_up_file<'a, R: Files + AllocGlobal>(rt: &R, name: &'a str) -> Result<Summary, Fault<'a>>
-    ensures { SumsUpNamed name.entry result }
+fn sum_up_file<'a, F: NamedFiles + AllocGlobal>(
+    files: &F,
+    name: &'a str,
+) -> Result<Summary, Fault<'a>>
+    ensures { SumsUpNamed (F.held files.now name.now) name.entry result }
 {
-    let mut file = open_regular(rt, name)?;
-    match sum_up_input(rt.alloc(), &mut file, MOST_BYTES) {
+    let mut file = open_regular(files, name)?;
+    match sum_up_input(files.alloc(), &mut file, MOST_BYTES) {
         Ok(summary) => Ok(summary),
         Err(fault) => Err(fault_of_report(name, fault)),
     }
 }
 
 // Opens the file of this name, if it is a regular file: anything else, such as a named pipe, might be waited for without end.
-fn open_regular<'a, R: Files>(rt: &R, name: &'a str) -> Result<R::File, Fault<'a>>
-    ensures { IfErr result (IsFileFault name.entry) }
+fn open_regular<'a, F: NamedFiles>(files: &F, name: &'a str) -> Result<F::File, Fault<'a>>
+    ensures held { IfOk result (λ file. F.File.remaining file ≡ F.held files.now name.now) }
+    ensures fault { IfErr result (IsFileFault name.entry) }
 {
-    match fs::metadata(rt, name) {
-        Ok(found) if !found.is_file() => Err(Fault::Read(name)),
-        _ => open_file(rt, name),
+    if files.is_special(name) {
+        return Err(Fault::Read(name));
     }
+    open_file(files, name)
 }
 
 // Prints what was found of the file of this name.
@@ -203,34 +206,34 @@ fn print_object<O: Write>(
 }
 
 // Adds the lines of one file to the table. Returns whether it was read.
-fn add_table<O: Write, E: Write>(
-    rt: &HostRuntime,
+fn add_table<F: NamedFiles + AllocGlobal, O: Write, E: Write>(
+    files: &F,
     name: &str,
     layout: &Layout<'_>,
     out: &mut O,
     err: &mut E,
 ) -> Result<bool, Fault<'static>>
     requires { length layout.now.fields.now ≤ 128 }
-    ensures lines { AddsTable layout.now name.now (O.contents out.old) (O.contents out.new) result }
+    ensures lines { AddsTable layout.now (F.held files.now name.now) name.now (O.contents out.old) (O.contents out.new) result }
     ensures fault { IfErr result IsStopped }
 {
-    let Ok(front) = first_cell(rt.alloc(), name) else {
+    let Ok(front) = first_cell(files.alloc(), name) else {
         return Err(Fault::NoMemory);
     };
-    let mut file = match open_regular(rt, name) {
+    let mut file = match open_regular(files, name) {
         Ok(file) => file,
         Err(fault) => {
-            let _ = print_named(rt.alloc(), "fitrec: ", name, &fault, err);
+            let _ = print_named(files.alloc(), "fitrec: ", name, &fault, err);
             return Ok(false);
         }
     };
     let front = Some(front.as_slice());
-    match table_input(rt.alloc(), &mut file, MOST_BYTES, layout, front, out) {
+    match table_input(files.alloc(), &mut file, MOST_BYTES, layout, front, out) {
         Ok(()) => Ok(true),
         Err(ReportFault::Output) => Err(Fault::Write("-")),
         Err(fault) => {
             let fault = fault_of_report(name, fault);
-            let _ = print_named(rt.alloc(), "fitrec: ", name, &fault, err);
+            let _ = print_named(files.alloc(), "fitrec: ", name, &fault, err);
             Ok(false)
         }
     }
@@ -283,17 +286,20 @@ fn print_named<L: Display, O: Write>(
 }
 
 // All names, with those that standard input lists in the place of the first `-`.
-fn all_names(rt: &HostRuntime, names: &Names<'_>) -> Result<Vec<String>, Fault<'static>>
+fn all_names<F: NamedFiles + AllocGlobal>(
+    files: &F,
+    names: &Names<'_>,
+) -> Result<Vec<String>, Fault<'static>>
     ensures names { IfOk result (λ all. AreNamesOf (map (λ word. word.now) names.now.all.items)
         (map string_bytes all.items)) }
     ensures fault { IfErr result IsStopped }
 {
-    let mut listed = Vec::new(rt.alloc());
+    let mut listed = Vec::new(files.alloc());
     if names.all.as_slice().contains(&"-") {
-        let mut from = rt.stdin();
-        listed = read_input(rt.alloc(), "-", &mut from)?;
+        let mut from = files.standard_input();
+        listed = read_input(files.alloc(), "-", &mut from)?;
     }
-    match names_with(rt.alloc(), names, listed.as_slice()) {
+    match names_with(files.alloc(), names, listed.as_slice()) {
         Ok(all) => Ok(all),
         Err(AllocError) => Err(Fault::NoMemory),
     }

@@ -1,43 +1,44 @@
 // Opens and reads the file of a subcommand.
 
 ghost use Rattle.std.specs.Io.KnownBytes.{Appends};
-ghost use Rattle.std.specs.Prelude.{◌≡◌, ◌<◌, ◌≤◌, ◌↔◌, vec_len, None, IsTrue, IfOk, IfErr, IfSome, OnOk};
-ghost use Rattle.fit_files.specs.Calls.Reading.{ReadsAll, ReadsFront};
+ghost use Rattle.std.specs.Prelude.{◌≡◌, ◌<◌, ◌↔◌, None, IsTrue, IfOk, IfErr, IfSome, OnOk};
 ghost use Rattle.fit_commands.specs.Faults.{IsReportFault};
-ghost use Rattle.fit_commands.specs.Reading.{fault_of_read, end_text, IsReadFault, IsFileFault};
+ghost use Rattle.fit_commands.specs.Reading.{fault_of_read, end_text, IsRead, IsReadFault, IsReadFront, IsFileFault};
 
 use crate::fault::Fault;
 use fit_files::{FrontRead, ReadFault, ReportFault, read_all, read_front};
+use fit_places::NamedFiles;
 use fit_words::ShownWord;
 use std::alloc::Global;
-use std::fs::{self, OpenFile};
 use std::io::{self, Read, Write};
-use std::rt::Files;
 
 /// The greatest size of a file that is read: 256 MiB, in bytes.
 pub const MOST_BYTES: usize = 268_435_456;
 
 /// Opens the file of this name, unless it is known to be too large.
-pub fn open_file<'a, R: Files>(rt: &R, name: &'a str) -> Result<R::File, Fault<'a>>
-    ensures { IfErr result (IsFileFault name.entry) }
+pub fn open_file<'a, F: NamedFiles>(files: &F, name: &'a str) -> Result<F::File, Fault<'a>>
+    ensures held { IfOk result (λ file. F.File.remaining file ≡ F.held files.now name.now) }
+    ensures fault { IfErr result (IsFileFault name.entry) }
 {
-    let Ok(file) = fs::open(rt, name) else {
+    let Ok(file) = files.open(name) else {
         return Err(Fault::Open(name));
     };
-    let size = file.metadata().map_or(0, |metadata| metadata.len());
-    if is_too_large(size) {
+    if is_too_large(files.size(&file)) {
         return Err(Fault::TooLarge);
     }
     Ok(file)
 }
 
 /// Reads all bytes of the file of this name.
-pub fn read_file<'a, R: Files + AllocGlobal>(rt: &R, name: &'a str) -> Result<Vec<u8>, Fault<'a>>
+pub fn read_file<'a, F: NamedFiles + AllocGlobal>(
+    files: &F,
+    name: &'a str,
+) -> Result<Vec<u8>, Fault<'a>>
+    ensures read { IfOk result (λ bytes. IsRead (F.held files.now name.now) bytes.items) }
     ensures fault { IfErr result (IsFileFault name.entry) }
-    ensures most { IfOk result (λ bytes. vec_len bytes ≤ 268435456) }
 {
-    match open_file(rt, name) {
-        Ok(mut file) => read_input(rt.alloc(), name, &mut file),
+    match open_file(files, name) {
+        Ok(mut file) => read_input(files.alloc(), name, &mut file),
         Err(fault) => Err(fault),
     }
 }
@@ -54,8 +55,7 @@ pub fn read_input<'a, T: Read>(
     name: &'a str,
     from: &mut T,
 ) -> Result<Vec<u8>, Fault<'a>>
-    ensures all { IfOk result
-        (λ bytes. ReadsAll 268435456 (T.remaining from.old) (T.remaining from.new) bytes.items) }
+    ensures read { IfOk result (λ bytes. IsRead (T.remaining from.old) bytes.items) }
     ensures refused { IfErr result
         (IsReadFault 268435456 (T.remaining from.old) (T.remaining from.new) name.entry) }
 {
@@ -71,8 +71,7 @@ pub fn read_input_front<'a, T: Read>(
     name: &'a str,
     from: &mut T,
 ) -> Result<FrontRead, Fault<'a>>
-    ensures front { IfOk result
-        (ReadsFront 268435456 (T.remaining from.old) (T.remaining from.new)) }
+    ensures read { IfOk result (IsReadFront (T.remaining from.old)) }
     ensures refused { IfErr result
         (IsReadFault 268435456 (T.remaining from.old) (T.remaining from.new) name.entry) }
 {
@@ -83,15 +82,15 @@ pub fn read_input_front<'a, T: Read>(
 }
 
 /// The same of the file of this name.
-pub fn read_file_front<'a, R: Files + AllocGlobal>(
-    rt: &R,
+pub fn read_file_front<'a, F: NamedFiles + AllocGlobal>(
+    files: &F,
     name: &'a str,
 ) -> Result<FrontRead, Fault<'a>>
+    ensures read { IfOk result (IsReadFront (F.held files.now name.now)) }
     ensures fault { IfErr result (IsFileFault name.entry) }
-    ensures most { IfOk result (λ read. vec_len read.bytes ≤ 268435456) }
 {
-    match open_file(rt, name) {
-        Ok(mut file) => read_input_front(rt.alloc(), name, &mut file),
+    match open_file(files, name) {
+        Ok(mut file) => read_input_front(files.alloc(), name, &mut file),
         Err(fault) => Err(fault),
     }
 }

@@ -8,49 +8,42 @@ ghost use Rattle.fit_grammar.specs.Format.Records.{data_size};
 ghost use Rattle.fit_grammar.specs.Calls.PlainForm.{IsPlain};
 ghost use Rattle.fit_joining.specs.Joined.{joined_messages};
 ghost use Rattle.fit_joining.specs.JoinedItems.{joined_file};
-ghost use Rattle.fit_commands.specs.Reported.{IsFormOfFile, PrintsNothing};
-ghost use Rattle.fit_commands.specs.JoinedFile.{AddsFile, AreFilesOf, AreNoParts, AreNotPut, ArePut, IsJoinedFile, IsJoinReported, IsNoPart, IsNotJoined, IsNotWrittenOut, JoinsFiles, part_lent, fault_of_misfit};
+ghost use Rattle.fit_commands.specs.Reported.{IsFormOfFile};
+ghost use Rattle.fit_commands.specs.Written.{WritesRun};
+ghost use Rattle.fit_commands.specs.JoinedFile.{AddsFile, AreFilesOf, AreNoParts, AreNotPut, ArePut, IsJoinedFile, IsJoinedOut, IsNoPart, IsNotJoined, IsNotWrittenOut, JoinsNamed, part_lent, fault_of_misfit};
 
-use crate::beside::write_whole;
+use crate::beside::write_counted;
 use crate::fault::Fault;
 use crate::finish::finish_file;
-use crate::input::fault_of_report;
 use crate::plain::plain_of;
-use fit_files::{count_messages, print_messages};
+use fit_files::count_messages;
 use fit_grammar::{FaultKind, File, decode_file};
 use fit_joining::{
     Misfit, MisfitKind, Part, first_misfit, put_in_order, write_joined, write_joined_records,
 };
+use fit_places::NamedFiles;
 use std::alloc::Global;
 use std::io::Write;
-use std::rt::Files;
 
 /// Writes the parts of an activity, the files `first` and `others`, as one file to the file `to`, which may exist, with the messages that
 /// close an activity. Prints how many messages are those of the parts. The file `to` may be one of them. The parts are joined in the order of
 /// their times, and refused if one of them has another sport than those before it, or begins before one of them ends. With `as_given` neither
 /// is looked at.
-pub fn join_parts<'a, O: Write>(
-    rt: &HostRuntime,
+pub fn join_parts<'a, F: NamedFiles + AllocGlobal, O: Write>(
+    files: &mut F,
     first: &'a str,
     others: &[&'a str],
     as_given: bool,
     to: &'a str,
     out: &mut O,
 ) -> Result<(), Fault<'a>>
-    ensures reported { IfErr result
-        (IsJoinReported as_given (first.entry ∷ others.now) to.entry) }
-    ensures made { OnOk result (JoinsFiles as_given (first.entry ∷ others.now)
-        (O.contents out.old) (O.contents out.new)) }
-    ensures quiet { IfErr result (PrintsNothing (O.contents out.old) (O.contents out.new)) }
+    ensures { WritesRun (JoinsNamed as_given (F.held files.old) (first.entry ∷ others.now)) IsJoinedOut to.entry
+        (F.held files.old) (F.held files.new) (O.contents out.old) (O.contents out.new) result }
 {
-    let joined = joined_of(rt, first, others, as_given)?;
+    let joined = joined_of(files, first, others, as_given)?;
     let count = count_messages(&joined);
     let finished = finish_file(joined)?;
-    write_whole(rt, to, &finished)?;
-    match print_messages(count, out) {
-        Ok(()) => Ok(()),
-        Err(fault) => Err(fault_of_report(first, fault)),
-    }
+    write_counted(files, to, &finished, count, out)
 }
 
 // A file that is to be a part, and its name.
@@ -61,23 +54,23 @@ struct NamedFile<'a> {
 }
 
 // The file of the parts of these names.
-fn joined_of<'a, R: Files + AllocGlobal>(
-    rt: &R,
+fn joined_of<'a, F: NamedFiles + AllocGlobal>(
+    files: &F,
     first: &'a str,
     others: &[&'a str],
     as_given: bool,
 ) -> Result<File, Fault<'a>>
-    ensures joined { IfOk result (IsJoinedFile as_given (first.entry ∷ others.now)) }
-    ensures reported { IfErr result (IsNotJoined as_given (first.entry ∷ others.now)) }
+    ensures joined { IfOk result (IsJoinedFile as_given (F.held files.now) (first.entry ∷ others.now)) }
+    ensures reported { IfErr result (IsNotJoined as_given (F.held files.now) (first.entry ∷ others.now)) }
 {
-    let files = files_of(rt, first, others)?;
-    let mut parts = parts_of(rt.alloc(), files.as_slice())?;
+    let named = files_of(files, first, others)?;
+    let mut parts = parts_of(files.alloc(), named.as_slice())?;
     put_parts(as_given, &mut parts)?;
     // There is one part at least.
     let [beginning, rest @ ..] = parts.as_slice() else {
         return Err(Fault::NoSample);
     };
-    join_put(rt.alloc(), beginning, rest)
+    join_put(files.alloc(), beginning, rest)
 }
 
 // The file of these parts.
@@ -185,46 +178,48 @@ fn parts_of<'a, 'f>(
 }
 
 // The files of these names.
-fn files_of<'a, R: Files + AllocGlobal>(
-    rt: &R,
+fn files_of<'a, F: NamedFiles + AllocGlobal>(
+    files: &F,
     first: &'a str,
     others: &[&'a str],
 ) -> Result<Vec<NamedFile<'a>>, Fault<'a>>
-    ensures files { IfOk result (λ files. AreFilesOf (first.entry ∷ others.now) files.items) }
-    ensures reported { IfErr result (AreNoParts (first.entry ∷ others.now)) }
+    ensures files { IfOk result (λ named.
+        AreFilesOf (F.held files.now) (first.entry ∷ others.now) named.items) }
+    ensures reported { IfErr result (AreNoParts (F.held files.now) (first.entry ∷ others.now)) }
 {
-    let mut files = Vec::new(rt.alloc());
-    add_file(rt, first, &mut files)?;
+    let mut named = Vec::new(files.alloc());
+    add_file(files, first, &mut named)?;
     let mut rest = others;
     while let [name, more @ ..] = rest {
-        add_file(rt, *name, &mut files)?;
+        add_file(files, *name, &mut named)?;
         rest = more;
     }
-    Ok(files)
+    Ok(named)
 }
 
 // Adds the file of this name.
-fn add_file<'a, R: Files + AllocGlobal>(
-    rt: &R,
+fn add_file<'a, F: NamedFiles + AllocGlobal>(
+    files: &F,
     name: &'a str,
-    files: &mut Vec<NamedFile<'a>>,
+    named: &mut Vec<NamedFile<'a>>,
 ) -> Result<(), Fault<'a>>
-    ensures file { OnOk result (AddsFile name.entry files.old.items files.new.items) }
-    ensures reported { IfErr result (AreNoParts (name.entry ∷ [])) }
+    ensures file { OnOk result (AddsFile (F.held files.now name.now) name.entry
+        named.old.items named.new.items) }
+    ensures reported { IfErr result (AreNoParts (F.held files.now) (name.entry ∷ [])) }
 {
-    let file = part_of(rt, name)?;
-    match files.push(NamedFile { name, file }) {
+    let file = part_of(files, name)?;
+    match named.push(NamedFile { name, file }) {
         Ok(()) => Ok(()),
         Err(_) => Err(Fault::NoMemory),
     }
 }
 
 // The plain form of the file of this name.
-fn part_of<'a, R: Files + AllocGlobal>(rt: &R, name: &'a str) -> Result<File, Fault<'a>>
-    ensures form { IfOk result IsFormOfFile }
-    ensures reported { IfErr result (IsNoPart name.entry) }
+fn part_of<'a, F: NamedFiles + AllocGlobal>(files: &F, name: &'a str) -> Result<File, Fault<'a>>
+    ensures form { IfOk result (IsFormOfFile (F.held files.now name.now)) }
+    ensures reported { IfErr result (IsNoPart (F.held files.now name.now) name.entry) }
 {
-    match plain_of(rt, name) {
+    match plain_of(files, name) {
         Ok(part) => Ok(part),
         Err(Fault::File(fault)) if fault.kind != FaultKind::Memory => {
             Err(Fault::NotPart(name, fault))

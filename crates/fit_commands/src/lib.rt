@@ -4,12 +4,13 @@
 //! `folder`, which opens the files of a recording, and `beside`, which writes a file whole or not at all. `chosen` has what words
 //! choose for a table, `each` what is done with several files, and `fault` the line that reports an error.
 //!
-//! Contracts use the definitions of `specs/`: `Reading` has the faults of a file that is not read, `Faults` has those of each library
-//! call and subcommand, `Reported` has what a subcommand prints, `Shifted` and `JoinedFile` have both of `shift` and `join`, and `Places` has the names of a recording's
-//! files.
+//! Contracts use the definitions of `specs/`: `Reading` has what is read of a file and the faults of one that is not read, `Faults` has
+//! those of each library call and subcommand, `Reported` has what a subcommand makes and prints, `Written` has how it writes that and which
+//! fault comes first, and `Shifted` and `JoinedFile` have all of `shift` and `join`.
 //!
-//! Proved: what each subcommand prints and which fault it reports, for what was read. Not proved: which calls are made on a folder, and in
-//! which order; `compare/` checks it. Trusted are the system, and that a file is what reads gave.
+//! Proved over any `NamedFiles`: what each subcommand prints of the bytes of the files that are named, what the file OUT then holds, and
+//! which fault it reports. `repair`, `replay` and `record` work on the system, under a witness; which calls they make on a folder is not
+//! proved, and `compare/` checks it. Trusted is the system: that `SystemFiles` opens and writes the files of the names.
 #![tactic(auto)]
 
 mod beside;

@@ -4,13 +4,14 @@ ghost use Rattle.std.specs.Io.KnownBytes.{Appends};
 ghost use Rattle.std.specs.Prelude.{◌≡◌, ◌≤◌, List, length, IfOk, IfErr, OnOk};
 ghost use Rattle.fit_grammar.specs.Format.Item.{Item};
 ghost use Rattle.fit_grammar.specs.Format.Records.{Records};
-ghost use Rattle.fit_commands.specs.Faults.{IsNoLike};
-ghost use Rattle.fit_commands.specs.Reported.{IsLike, IsOutputReported, count_text, known_row as known_row_of, like_name, like_text};
+ghost use Rattle.fit_commands.specs.Faults.{IsNoLike, IsOutputReported};
+ghost use Rattle.fit_commands.specs.Reported.{IsLike, count_text, known_row as known_row_of, like_name, like_text};
 
 use crate::fault::Fault;
 use crate::input::read_file;
 use fit_grammar::FaultKind;
 use fit_mending::{Known, known_by};
+use fit_places::NamedFiles;
 use fit_words::{SalvageForm, ShownWord};
 use std::io::{self, Write};
 
@@ -22,11 +23,11 @@ pub struct Like<'a> {
 }
 
 /// The definitions of the file `like`, if there is one.
-pub(crate) fn like_of<'a>(
-    rt: &HostRuntime,
+pub(crate) fn like_of<'a, F: NamedFiles + AllocGlobal>(
+    files: &F,
     form: &SalvageForm<'a>,
 ) -> Result<Option<Like<'a>>, Fault<'a>>
-    ensures like { IfOk result (IsLike (like_name form.now)) }
+    ensures like { IfOk result (IsLike (F.held files.now) (like_name form.now)) }
     ensures row { IfOk result (λ like. (items : List Item) × Records (known_row_of like) items) }
     ensures short { IfOk result (λ like. length (known_row_of like) ≤ 24592) }
     ensures reported { IfErr result (IsNoLike (like_name form.now)) }
@@ -34,8 +35,8 @@ pub(crate) fn like_of<'a>(
     let (true, Some(name)) = (form.skip, form.like) else {
         return Ok(None);
     };
-    let bytes = read_file(rt, name)?;
-    match known_by(rt.alloc(), bytes.as_slice()) {
+    let bytes = read_file(files, name)?;
+    match known_by(files.alloc(), bytes.as_slice()) {
         Ok(known) => Ok(Some(Like { name, known })),
         Err(fault) if fault.kind == FaultKind::Memory => Err(Fault::NoMemory),
         Err(fault) => Err(Fault::NotLike(name, fault)),

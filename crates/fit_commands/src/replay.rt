@@ -17,28 +17,29 @@ use crate::input::{fault_of_report, read_file};
 use fit_disk::{Trusting, Witness};
 use fit_files::ReportFault;
 use fit_histories::Event;
+use fit_places::NamedFiles;
 use fit_runs::play;
 use fit_scripts::{ReplayFault, read_script};
 use std::io::Write;
-use std::rt::Files;
 
 /// Runs the script of this name over the files of a folder, and prints a line for each event. If a line is wrong, or has an event
 /// that only `simulate` runs, no file of the folder is opened. If replies were not ok, the fault is `Refused` with their number. A
 /// start makes a checked journal or another.
-pub fn replay_script<'a, O: Write>(
+pub fn replay_script<'a, F: NamedFiles + AllocGlobal, O: Write>(
     rt: &HostRuntime,
+    files: &F,
     script: &'a str,
     folder: &'a str,
     checked: bool,
     out: &mut O,
 ) -> Result<(), Fault<'a>>
     ensures reported { IfErr result (IsReplayReported script.entry folder.entry) }
-    ensures done { OnOk result (Replays (O.contents out.old) (O.contents out.new) 0) }
+    ensures done { OnOk result (Replays (F.held files.now script.now) (O.contents out.old) (O.contents out.new) 0) }
     ensures refused { (count : ℕ) → result ≡ Err (Refused count)
-        → Replays (O.contents out.old) (O.contents out.new) count }
+        → Replays (F.held files.now script.now) (O.contents out.old) (O.contents out.new) count }
     ensures quiet { IfErr result (PrintsNoLine (O.contents out.old) (O.contents out.new)) }
 {
-    let events = events_of(rt, script)?;
+    let events = events_of(files, script)?;
     let (_, played) = replay_files(rt, folder, Trusting, events.as_slice(), checked, out)?;
     match played {
         Ok(0) => Ok(()),
@@ -76,13 +77,16 @@ pub fn replay_files<'a, W: Witness, O: Write>(
 }
 
 // Reads the events of the script of this name. All of them can be replayed.
-fn events_of<'a, R: Files + AllocGlobal>(rt: &R, name: &'a str) -> Result<Vec<Event>, Fault<'a>>
-    ensures script { IfOk result (λ events. IsScriptOf events.items) }
+fn events_of<'a, F: NamedFiles + AllocGlobal>(
+    files: &F,
+    name: &'a str,
+) -> Result<Vec<Event>, Fault<'a>>
+    ensures script { IfOk result (λ events. IsScriptOf (F.held files.now name.now) events.items) }
     ensures replayed { IfOk result (λ events. All IsReplayed events.items) }
     ensures reported { IfErr result (IsScriptReported name.entry) }
 {
-    let bytes = read_file(rt, name)?;
-    match read_script(rt.alloc(), bytes.as_slice()) {
+    let bytes = read_file(files, name)?;
+    match read_script(files.alloc(), bytes.as_slice()) {
         Ok(events) => Ok(events),
         Err(fault) => Err(fault_of(name, fault)),
     }

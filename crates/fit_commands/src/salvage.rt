@@ -1,10 +1,11 @@
 // The subcommand `salvage`: writes what is readable of a damaged file to a file of its own.
 
-ghost use Rattle.std.specs.Prelude.{◌≤◌, ◌⊎◌, Bool, List, length, IfOk, IfErr, OnOk, vec_len};
+ghost use Rattle.std.specs.Prelude.{◌≤◌, Bool, List, length, IfOk, IfErr, vec_len};
 ghost use Rattle.fit_grammar.specs.Format.Item.{Item};
 ghost use Rattle.fit_grammar.specs.Format.Records.{Records};
-ghost use Rattle.fit_commands.specs.Faults.{IsNoFormReported, IsNoLike, IsNotMade, IsNothingKept, IsOfWhole, IsSalvageReported};
-ghost use Rattle.fit_commands.specs.Reported.{IsFormOf, IsKeptOf, IsMade, SavesFile, PrintsNothing, like_name};
+ghost use Rattle.fit_commands.specs.Faults.{IsNoFormReported, IsNothingKept, IsOfWhole};
+ghost use Rattle.fit_commands.specs.Reported.{IsFormOf, IsKeptOf, IsSalvagedOut, SalvagesNamed};
+ghost use Rattle.fit_commands.specs.Written.{WritesForm, WritesRun};
 
 use crate::beside::write_whole;
 use crate::fault::Fault;
@@ -13,6 +14,7 @@ use crate::input::{fault_of_report, print_end, read_file_front};
 use crate::like::{known_row, like_of, print_like};
 use fit_files::{FrontRead, Heard, Kept, Salvage, salvage_bytes, skip_bytes};
 use fit_grammar::{File, FileFault, read_header_front};
+use fit_places::NamedFiles;
 use fit_words::SalvageForm;
 use std::alloc::Global;
 use std::io::Write;
@@ -25,25 +27,22 @@ use std::io::Write;
 /// With `skip`, bytes of which nothing is readable are refused as a file, unless they begin with a header. The definitions in force at the
 /// end of the file `like`, if there is one, are known before the bytes, and stand first in the file `to`; a last line says how many there
 /// are.
-pub fn salvage_file<'a, O: Write, E: Write>(
-    rt: &HostRuntime,
+pub fn salvage_file<'a, F: NamedFiles + AllocGlobal, O: Write, E: Write>(
+    files: &mut F,
     name: &'a str,
     to: &'a str,
     form: &SalvageForm<'a>,
     out: &mut O,
     err: &mut E,
 ) -> Result<(), Fault<'a>>
-    ensures reported { IfErr result
-        (λ fault. IsNoLike (like_name form.now) fault
-        ⊎ IsSalvageReported form.now name.entry to.entry fault) }
-    ensures saved { OnOk result (SavesFile form.now (O.contents out.old) (O.contents out.new)) }
-    ensures quiet { IfErr result (PrintsNothing (O.contents out.old) (O.contents out.new)) }
+    ensures { WritesRun (SalvagesNamed form.now (F.held files.old) name.entry) IsSalvagedOut to.entry
+        (F.held files.old) (F.held files.new) (O.contents out.old) (O.contents out.new) result }
 {
-    let like = like_of(rt, form)?;
-    let read = read_file_front(rt, name)?;
-    let kept = kept_of(rt.alloc(), name, known_row(&like), &read, form)?;
+    let like = like_of(files, form)?;
+    let read = read_file_front(files, name)?;
+    let kept = kept_of(files.alloc(), name, known_row(&like), &read, form)?;
     let salvage = kept.salvage();
-    let heard = write_kept(rt, name, to, form, &salvage)?;
+    let heard = write_kept(files, name, to, form, &salvage)?;
     // With either, what was not read is said even if the output fails.
     let is_always_said = form.skip || form.finish;
     if is_always_said {
@@ -103,27 +102,26 @@ fn fault_of<'a>(name: &'a str, read: &FrontRead, fault: FileFault) -> Fault<'a>
 }
 
 // Writes what is kept of the file `name` to the file `to`, and returns what was heard in it, if it is finished.
-fn write_kept<'a>(
-    rt: &HostRuntime,
+fn write_kept<'a, F: NamedFiles + AllocGlobal>(
+    files: &mut F,
     name: &'a str,
     to: &'a str,
     form: &SalvageForm<'_>,
     salvage: &Salvage<'_>,
 ) -> Result<Option<Heard>, Fault<'a>>
-    ensures made { IfOk result (IsMade form.now salvage.now) }
-    ensures reported { IfErr result (IsNotMade form.now to.entry) }
+    ensures { WritesForm form.now salvage.now to.entry (F.held files.old) (F.held files.new) result }
 {
     if !form.plain && !form.finish {
-        write_whole(rt, to, salvage)?;
+        write_whole(files, to, salvage)?;
         return Ok(None);
     }
-    let file = form_of(rt.alloc(), name, form.plain, salvage)?;
+    let file = form_of(files.alloc(), name, form.plain, salvage)?;
     if !form.finish {
-        write_whole(rt, to, &file)?;
+        write_whole(files, to, &file)?;
         return Ok(None);
     }
     let finished = finish_file(file)?;
-    write_whole(rt, to, &finished)?;
+    write_whole(files, to, &finished)?;
     Ok(Some(heard_in(&finished.finishing)))
 }
 

@@ -1,19 +1,19 @@
 // The subcommand `shift`: a file with the same messages, and every time in them moved.
 
-ghost use Rattle.std.specs.Prelude.{◌≡◌, IfOk, IfErr, OnOk};
-ghost use Rattle.fit_commands.specs.Reported.{PrintsNothing};
-ghost use Rattle.fit_commands.specs.Shifted.{fault_of_shift, IsNotShifted, IsShiftReported, IsShiftedFile, ShiftsFile};
+ghost use Rattle.std.specs.Prelude.{◌≡◌};
+ghost use Rattle.fit_commands.specs.Shifted.{fault_of_shift, ShiftsNamed};
+ghost use Rattle.fit_commands.specs.Written.{IsCounted, WritesRun};
 
-use crate::beside::write_whole;
+use crate::beside::write_counted;
 use crate::fault::Fault;
-use crate::input::{fault_of_report, read_file};
-use fit_files::{count_messages, print_messages};
+use crate::input::read_file;
+use fit_files::count_messages;
 use fit_grammar::File;
+use fit_places::NamedFiles;
 use fit_shifting::{Shift, ShiftBy, ShiftFault, shift_bytes};
 use fit_words::ShiftForm;
 use jiff::Timestamp;
 use std::io::Write;
-use std::rt::Files;
 
 // From 1970-01-01T00:00:00Z to 1989-12-31T00:00:00Z, in seconds.
 const FIT_EPOCH: i64 = 631_065_600;
@@ -77,36 +77,30 @@ fn valid(seconds: i64) -> Option<u32> {
 
 /// Writes the file `name`, with every time in it moved and written out, to the file `to`, which may exist, and prints the number of its
 /// messages. Both may be one file.
-pub fn make_shifted<'a, O: Write>(
-    rt: &HostRuntime,
+pub fn make_shifted<'a, F: NamedFiles + AllocGlobal, O: Write>(
+    files: &mut F,
     name: &'a str,
     to: &'a str,
     by: ShiftBy,
     out: &mut O,
 ) -> Result<(), Fault<'a>>
-    ensures reported { IfErr result (IsShiftReported name.entry to.entry by) }
-    ensures made { OnOk result (ShiftsFile by (O.contents out.old) (O.contents out.new)) }
-    ensures quiet { IfErr result (PrintsNothing (O.contents out.old) (O.contents out.new)) }
+    ensures { WritesRun (ShiftsNamed by (F.held files.old name.now) name.entry) IsCounted to.entry
+        (F.held files.old) (F.held files.new) (O.contents out.old) (O.contents out.new) result }
 {
-    let shifted = shifted_of(rt, name, by)?;
-    write_whole(rt, to, &shifted)?;
-    match print_messages(count_messages(&shifted), out) {
-        Ok(()) => Ok(()),
-        Err(fault) => Err(fault_of_report(name, fault)),
-    }
+    let shifted = shifted_of(files, name, by)?;
+    write_counted(files, to, &shifted, count_messages(&shifted), out)
 }
 
 // The file of this name with its times moved.
-fn shifted_of<'a, R: Files + AllocGlobal>(
-    rt: &R,
+fn shifted_of<'a, F: NamedFiles + AllocGlobal>(
+    files: &F,
     name: &'a str,
     by: ShiftBy,
 ) -> Result<File, Fault<'a>>
-    ensures shifted { IfOk result (IsShiftedFile by) }
-    ensures reported { IfErr result (IsNotShifted name.entry by) }
+    ensures { ShiftsNamed by (F.held files.now name.now) name.entry result }
 {
-    let bytes = read_file(rt, name)?;
-    match shift_bytes(rt.alloc(), by, bytes.as_slice()) {
+    let bytes = read_file(files, name)?;
+    match shift_bytes(files.alloc(), by, bytes.as_slice()) {
         Ok(shifted) => Ok(shifted),
         Err(fault) => Err(fault_of(fault)),
     }

@@ -7,22 +7,22 @@ ghost use Rattle.fit_commands.specs.Reported.{ReportsRun};
 use crate::fault::Fault;
 use crate::input::{MOST_BYTES, fault_of_report, open_file};
 use fit_files::show_input;
+use fit_places::NamedFiles;
 use std::io::Write;
-use std::rt::Files;
 
 /// Prints the text of the file of this name. With `utc`, times are dates.
-pub fn show_file<'a, R: Files + AllocGlobal, O: Write>(
-    rt: &R,
+pub fn show_file<'a, F: NamedFiles + AllocGlobal, O: Write>(
+    files: &F,
     name: &'a str,
     utc: bool,
     out: &mut O,
 ) -> Result<(), Fault<'a>>
-    ensures { ReportsRun name.entry (O.contents out.old) (O.contents out.new)
+    ensures { ReportsRun (F.held files.now name.now) name.entry (O.contents out.old) (O.contents out.new)
         (IsReportFault name.entry)
         (ShowsBytes utc (O.contents out.old) (O.contents out.new)) result }
 {
-    let mut file = open_file(rt, name)?;
-    match show_input(rt.alloc(), &mut file, MOST_BYTES, utc, out) {
+    let mut file = open_file(files, name)?;
+    match show_input(files.alloc(), &mut file, MOST_BYTES, utc, out) {
         Ok(()) => Ok(()),
         Err(fault) => Err(fault_of_report(name, fault)),
     }

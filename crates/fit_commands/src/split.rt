@@ -1,10 +1,9 @@
 // The subcommand `split`: writes each of the files that are chained in one, or stand in the image of a card.
 
-ghost use Rattle.std.specs.Prelude.{◌≡◌, ◌≤◌, ℕ, List, length, Err, IfOk, IfErr, OnOk};
-ghost use Rattle.std.specs.Borrow.{Bor};
-ghost use Rattle.fit_commands.specs.declared.fault.Fault.TheVariants.{NoFile};
-ghost use Rattle.fit_commands.specs.Faults.{IsNotFound, IsNotWritten, IsPartReported, IsSplitReported};
-ghost use Rattle.fit_commands.specs.Reported.{AreNotTooMany, AreParts, HasNoParts, PrintsLines, SplitsFile};
+ghost use Rattle.std.specs.Prelude.{IfOk, IfErr, OnOk};
+ghost use Rattle.fit_places.specs.NamedFiles.{ReplacesNamed};
+ghost use Rattle.fit_commands.specs.Faults.{IsNotFound, IsNotWritten, IsPartReported};
+ghost use Rattle.fit_commands.specs.Reported.{AreNotTooMany, AreParts, PrintsLines, SplitsFile, WritesParts, part_name};
 
 use crate::beside::write_whole;
 use crate::content::Content;
@@ -13,6 +12,7 @@ use crate::input::{fault_of_report, read_file};
 use fit_files::print_part;
 use fit_grammar::{EncodeFault, Sink};
 use fit_mending::{FindFault, Part, find_files, split_files};
+use fit_places::NamedFiles;
 use std::alloc::Global;
 use std::io::Write;
 
@@ -23,27 +23,25 @@ const MOST_FILES: usize = 1000;
 /// `all` writes each whole file that stands somewhere in it, named by the place where it begins. Prints a line for each: how many bytes it
 /// has, and why it is no file, if it is none. A folder without a name is refused, and so are no file, and more than 1,000 files without
 /// `all`.
-pub fn split_file<'a, O: Write>(
-    rt: &HostRuntime,
+pub fn split_file<'a, F: NamedFiles + AllocGlobal, O: Write>(
+    files: &mut F,
     name: &'a str,
     to: &'a str,
     all: bool,
     out: &mut O,
 ) -> Result<(), Fault<'a>>
-    ensures reported { IfErr result (IsSplitReported name.entry to.entry all) }
-    ensures lines { SplitsFile all (O.contents out.old) (O.contents out.new) result }
-    ensures named { OnOk result (1 ≤ length to.now) }
-    ensures none { (file : Bor (List ℕ)) → result ≡ Err (NoFile file) → HasNoParts all }
+    ensures { SplitsFile all name.entry to.entry (F.held files.old) (F.held files.new)
+        (O.contents out.old) (O.contents out.new) result }
 {
-    let bytes = read_file(rt, name)?;
+    let bytes = read_file(files, name)?;
     if to.is_empty() {
         return Err(Fault::Open(to));
     }
-    let parts = parts_of(rt.alloc(), bytes.as_slice(), all)?;
+    let parts = parts_of(files.alloc(), bytes.as_slice(), all)?;
     if parts.is_empty() {
         return Err(Fault::NoFile(name));
     }
-    write_parts(rt, to, parts.as_slice(), out)
+    write_parts(files, to, parts.as_slice(), out)
 }
 
 // The files of these bytes.
@@ -69,18 +67,20 @@ fn parts_of(alloc: Global, bytes: &[u8], all: bool) -> Result<Vec<Part<'_>>, Fau
 }
 
 // Writes each of these files into the folder, and prints its line after it.
-fn write_parts<'a, O: Write>(
-    rt: &HostRuntime,
+fn write_parts<'a, F: NamedFiles + AllocGlobal, O: Write>(
+    files: &mut F,
     folder: &'a str,
     parts: &[Part<'_>],
     out: &mut O,
 ) -> Result<(), Fault<'a>>
     ensures reported { IfErr result (IsPartReported folder.entry) }
     ensures lines { PrintsLines parts.now (O.contents out.old) (O.contents out.new) result }
+    ensures written { OnOk result
+        (WritesParts folder.now parts.now (F.held files.old) (F.held files.new)) }
 {
     let mut rest = parts;
     while let [part, others @ ..] = rest {
-        write_part(rt, folder, *part)?;
+        write_part(files, folder, *part)?;
         match print_part(*part, out) {
             Ok(()) => rest = others,
             Err(fault) => return Err(fault_of_report(folder, fault)),
@@ -105,13 +105,19 @@ impl Content for Raw<'_> {
 }
 
 // Writes a file into the folder, under its number.
-fn write_part<'a>(rt: &HostRuntime, folder: &'a str, part: Part<'_>) -> Result<(), Fault<'a>>
-    ensures { IfErr result (IsNotWritten folder.entry) }
+fn write_part<'a, F: NamedFiles + AllocGlobal>(
+    files: &mut F,
+    folder: &'a str,
+    part: Part<'_>,
+) -> Result<(), Fault<'a>>
+    ensures written { OnOk result (ReplacesNamed (part_name folder.now part.entry) part.entry.bytes.now
+        (F.held files.old) (F.held files.new)) }
+    ensures fault { IfErr result (IsNotWritten folder.entry) }
 {
-    let Ok(name) = format!(in rt.alloc(); "{folder}/{}.fit", part.number) else {
+    let Ok(name) = format!(in files.alloc(); "{folder}/{}.fit", part.number) else {
         return Err(Fault::NoMemory);
     };
-    match write_whole(rt, name.as_str(), &Raw(part.bytes)) {
+    match write_whole(files, name.as_str(), &Raw(part.bytes)) {
         Ok(()) => Ok(()),
         Err(Fault::NoMemory) => Err(Fault::NoMemory),
         Err(_) => Err(Fault::Write(folder)),

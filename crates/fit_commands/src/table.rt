@@ -4,33 +4,36 @@ ghost use Rattle.std.specs.Prelude.{◌≤◌, length, None};
 ghost use Rattle.fit_files.specs.Exports.Tabled.{ShowsHeld, ShowsTable};
 ghost use Rattle.fit_files.specs.declared.export.held.Held.{Held as AnyHeld};
 ghost use Rattle.fit_commands.specs.Faults.{IsReportFault};
+ghost use Rattle.fit_commands.specs.Reading.{held_or_given};
 ghost use Rattle.fit_commands.specs.Reported.{ReportsRun};
 
 use crate::fault::Fault;
 use crate::input::{MOST_BYTES, fault_of_report, open_file};
 use fit_files::{Held, table_held_input, table_input};
+use fit_places::NamedFiles;
 use fit_table::Layout;
 use std::alloc::Global;
 use std::io::{self, Read, Write};
 
 /// Prints the table of the file of this name, or of standard input if the name is `-`.
-pub fn table_file<'a, O: Write>(
-    rt: &HostRuntime,
+pub fn table_file<'a, F: NamedFiles + AllocGlobal, O: Write>(
+    files: &F,
     name: &'a str,
     layout: &Layout<'_>,
     out: &mut O,
 ) -> Result<(), Fault<'a>>
     requires { length layout.now.fields.now ≤ 128 }
-    ensures { ReportsRun name.entry (O.contents out.old) (O.contents out.new)
+    ensures { ReportsRun (held_or_given name.now (F.held files.now name.now) (F.given files.now))
+        name.entry (O.contents out.old) (O.contents out.new)
         (IsReportFault name.entry)
         (ShowsTable layout.now None (O.contents out.old) (O.contents out.new)) result }
 {
     if name == "-" {
-        let mut from = rt.stdin();
-        return table_from(rt.alloc(), name, &mut from, layout, out);
+        let mut from = files.standard_input();
+        return table_from(files.alloc(), name, &mut from, layout, out);
     }
-    let mut file = open_file(rt, name)?;
-    table_from(rt.alloc(), name, &mut file, layout, out)
+    let mut file = open_file(files, name)?;
+    table_from(files.alloc(), name, &mut file, layout, out)
 }
 
 // Prints the table of the input of this name.
@@ -42,7 +45,8 @@ fn table_from<'a, T: Read, O: Write>(
     out: &mut O,
 ) -> Result<(), Fault<'a>>
     requires { length layout.now.fields.now ≤ 128 }
-    ensures { ReportsRun name.entry (O.contents out.old) (O.contents out.new)
+    ensures { ReportsRun (T.remaining from.old)
+        name.entry (O.contents out.old) (O.contents out.new)
         (IsReportFault name.entry)
         (ShowsTable layout.now None (O.contents out.old) (O.contents out.new)) result }
 {
@@ -54,40 +58,42 @@ fn table_from<'a, T: Read, O: Write>(
 
 /// Prints the table of the file of this name, or of standard input if the name is `-`, with a column for each field that the messages of
 /// the layout have in it, in place of the layout's fields. Reports how many there are past 128.
-pub fn table_of_all<'a, O: Write, E: Write>(
-    rt: &HostRuntime,
+pub fn table_of_all<'a, F: NamedFiles + AllocGlobal, O: Write, E: Write>(
+    files: &F,
     name: &'a str,
     layout: &Layout<'_>,
     out: &mut O,
     err: &mut E,
 ) -> Result<(), Fault<'a>>
-    ensures { (held : AnyHeld) × ReportsRun name.entry (O.contents out.old) (O.contents out.new)
+    ensures { (held : AnyHeld) × ReportsRun (held_or_given name.now (F.held files.now name.now) (F.given files.now))
+        name.entry (O.contents out.old) (O.contents out.new)
         (IsReportFault name.entry)
         (ShowsHeld layout.now held (O.contents out.old) (O.contents out.new)) result }
 {
     let mut held = Held::new();
-    let done = table_held(rt, name, layout, &mut held, out);
-    let _ = report_left_out(rt.alloc(), held.left_out, err);
+    let done = table_held(files, name, layout, &mut held, out);
+    let _ = report_left_out(files.alloc(), held.left_out, err);
     done
 }
 
-fn table_held<'a, O: Write>(
-    rt: &HostRuntime,
+fn table_held<'a, F: NamedFiles + AllocGlobal, O: Write>(
+    files: &F,
     name: &'a str,
     layout: &Layout<'_>,
     held: &mut Held,
     out: &mut O,
 ) -> Result<(), Fault<'a>>
-    ensures { ReportsRun name.entry (O.contents out.old) (O.contents out.new)
+    ensures { ReportsRun (held_or_given name.now (F.held files.now name.now) (F.given files.now))
+        name.entry (O.contents out.old) (O.contents out.new)
         (IsReportFault name.entry)
         (ShowsHeld layout.now held.new (O.contents out.old) (O.contents out.new)) result }
 {
     if name == "-" {
-        let mut from = rt.stdin();
-        return table_held_from(rt.alloc(), name, &mut from, layout, held, out);
+        let mut from = files.standard_input();
+        return table_held_from(files.alloc(), name, &mut from, layout, held, out);
     }
-    let mut file = open_file(rt, name)?;
-    table_held_from(rt.alloc(), name, &mut file, layout, held, out)
+    let mut file = open_file(files, name)?;
+    table_held_from(files.alloc(), name, &mut file, layout, held, out)
 }
 
 fn table_held_from<'a, T: Read, O: Write>(
@@ -98,7 +104,8 @@ fn table_held_from<'a, T: Read, O: Write>(
     held: &mut Held,
     out: &mut O,
 ) -> Result<(), Fault<'a>>
-    ensures { ReportsRun name.entry (O.contents out.old) (O.contents out.new)
+    ensures { ReportsRun (T.remaining from.old)
+        name.entry (O.contents out.old) (O.contents out.new)
         (IsReportFault name.entry)
         (ShowsHeld layout.now held.new (O.contents out.old) (O.contents out.new)) result }
 {

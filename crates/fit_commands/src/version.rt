@@ -3,14 +3,14 @@
 ghost use Rattle.std.specs.Prelude.{IfErr};
 ghost use Rattle.fit_grammar.specs.Calls.Output.{WritesText};
 ghost use Rattle.fit_commands.specs.declared.version.TheConstants.{VERSION};
-ghost use Rattle.fit_commands.specs.Reported.{IsOutputReported};
+ghost use Rattle.fit_commands.specs.Faults.{IsOutputReported};
 
 use crate::fault::Fault;
 use fit_grammar::Sink;
 use std::io::Write;
 
 /// The version, the kit that proved it, and the checksum of the logic of its proofs.
-const VERSION: &str = "fitrec 3.1.0\nrattle-kit-13f\nlogic dac8208d650f15bf\n";
+const VERSION: &str = "fitrec 3.2.0\nrattle-kit-13f\nlogic dac8208d650f15bf\n";
 
 /// Prints them.
 pub fn print_version<'a, O: Write>(out: &mut O) -> Result<(), Fault<'a>>

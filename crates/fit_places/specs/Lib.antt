@@ -11,3 +11,4 @@ pub mod NameChanges
 pub mod MemoryFolder
 pub mod CallPlan
 pub mod Memory
+pub mod NamedFiles

@@ -1,6 +1,6 @@
 // The place in memory: an honest place whose failures and power cuts are planned.
 
-ghost use Rattle.std.specs.Prelude.{◌≡◌, ℕ, true, false, not, None, Some, option_map, OnOk, OnErr, IfOk, IsErr};
+ghost use Rattle.std.specs.Prelude.{◌≡◌, ℕ, true, false, not, [], None, Some, codes, option_map, OnOk, OnErr, IfOk, IfSome, IsErr};
 ghost use Rattle.fit_places.specs.MemoryFolder.{StandsFor};
 ghost use Rattle.fit_places.specs.Noted.{story_by, beginning, put_there};
 ghost use Rattle.fit_places.specs.FolderStory.{call_failed, folder_then};
@@ -13,8 +13,12 @@ use crate::call_plan::CallPlan;
 use crate::folder_note::FolderNote;
 use crate::folder_notes::FolderNotes;
 use crate::memory_folder::MemoryFolder;
-use crate::{Content, Kind, Place, PlaceFault};
-use std::alloc::Global;
+use crate::named::other_of;
+use crate::{Content, Kind, NamedFiles, Place, PlaceFault, replace};
+use fit_disk::{DATA_NAME, JOURNAL_NAME, OpenFault};
+use std::alloc::{Alloc, Global};
+use std::collections::VecDeque;
+use std::io::{self, Empty, ErrorKind};
 
 /// A thing in a folder, and whether it was synced since it was last changed. If not, a power cut leaves anything in its place.
 #[derive(Clone, Copy)]
@@ -37,6 +41,7 @@ pub struct MemoryPlace {
 
 impl MemoryPlace {
     ghost use Rattle.fit_places.specs.Memory.{place_story, place_plan, folder_is_open, thing_left, left_back};
+    ghost use Rattle.fit_places.specs.NamedFiles.{place_held};
 
     /// A folder with nothing in it. A move keeps what was synced of a file, or does not, as on a FAT card.
     pub fn new(alloc: Global, keeps_moved: bool) -> MemoryPlace
@@ -123,6 +128,20 @@ impl MemoryPlace {
             }
             Some(None) => Some(None),
             None => None,
+        }
+    }
+
+    // A copy of the file of this name, if it is one.
+    fn file_of(&self, name: &str) -> io::Result<Option<VecDeque<u8>>>
+        ensures { IfOk result (λ file. IfSome file (λ bytes.
+            Some bytes.items ≡ place_held self.now name.now)) }
+    {
+        match self.left(name, 0) {
+            Some(Some(thing)) if thing.kind == Kind::File => {
+                let bytes = Vec::from_slice(self.alloc(), thing.bytes)?;
+                Ok(Some(VecDeque::from_vec(bytes)))
+            }
+            _ => Ok(None),
         }
     }
 
@@ -337,5 +356,63 @@ impl Place for MemoryPlace {
                 Err(PlaceFault::Memory)
             }
         }
+    }
+}
+
+impl Alloc for MemoryPlace {
+    type A = Global;
+
+    fn alloc(&self) -> Global {
+        self.folder.alloc()
+    }
+}
+
+// Each folder that is named is this one, and standard input is at its end.
+impl NamedFiles for MemoryPlace {
+    ghost use Rattle.fit_places.specs.NamedFiles.{place_held};
+
+    type File = VecDeque<u8>;
+
+    type Input = Empty;
+
+    ghost held = { place_held };
+
+    ghost held_data = { λ place _. place_held place (codes "activity.fit") };
+
+    ghost held_journal = { λ place _. place_held place (codes "activity.frj") };
+
+    ghost given = { λ _. Some [] };
+
+    fn open(&self, name: &str) -> io::Result<VecDeque<u8>> {
+        match self.file_of(name)? {
+            Some(file) => Ok(file),
+            None => Err(ErrorKind::NotFound.into()),
+        }
+    }
+
+    fn size(&self, file: &VecDeque<u8>) -> u64 {
+        file.len() as u64
+    }
+
+    fn is_special(&self, name: &str) -> bool {
+        self.folder.kind_of(name) == Some(Kind::Other)
+    }
+
+    fn open_recorded(
+        &self,
+        _folder: &str,
+    ) -> Result<(Option<VecDeque<u8>>, Option<VecDeque<u8>>), OpenFault> {
+        let data = self.file_of(DATA_NAME)?;
+        let journal = self.file_of(JOURNAL_NAME)?;
+        Ok((data, journal))
+    }
+
+    fn standard_input(&self) -> Empty {
+        io::empty()
+    }
+
+    fn replace<C: Content>(&mut self, name: &str, content: &C) -> Result<(), PlaceFault> {
+        let alloc = self.alloc();
+        replace(alloc, self, name, other_of(name), content)
     }
 }

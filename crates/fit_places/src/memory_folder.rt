@@ -51,6 +51,10 @@ impl MemoryFolder {
         }
     }
 
+    pub(crate) fn alloc(&self) -> Global {
+        self.alloc
+    }
+
     // The number that a name stands for.
     pub(crate) fn number_of(&self, name: &str) -> Option<usize>
         ensures value { result ≡ number_by self.now.changes.items name.now }

@@ -9,6 +9,8 @@ mod faults;
 #[cfg(test)]
 mod memory;
 #[cfg(test)]
+mod named;
+#[cfg(test)]
 mod refusals;
 #[cfg(test)]
 mod ride;

@@ -14,7 +14,7 @@ pub(crate) const BESIDE: &str = ".fitrec-new-0";
 // The mode of the file that is there, of no other file.
 pub(crate) const MODE: u32 = 0o640;
 
-const OLD: &[u8] = b"the old ride";
+pub(crate) const OLD: &[u8] = b"the old ride";
 
 const NEW: &[u8] = b"a new ride, longer";
 
@@ -22,7 +22,7 @@ const OTHERS: &[u8] = b"rain from noon on";
 
 // What is written.
 #[derive(Drop)]
-struct Ride;
+pub(crate) struct Ride;
 
 impl Content for Ride {
     ghost use Rattle.fit_places_tests.specs.Ride.{new_ride};

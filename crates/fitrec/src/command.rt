@@ -12,11 +12,13 @@ use fit_commands::{
     table_file, table_of_all, verify_folder,
 };
 use fit_files::ExportForm;
+use fit_places::SystemFiles;
 use fit_scripts::read_choices;
 use fit_words::{
     Names, Request, ShiftForm, TableForm, no_choices, no_name, no_seconds, no_shift, no_start,
     read_words, too_many_fields,
 };
+use std::alloc::Global;
 use std::convert::AsStr;
 use std::io::Write;
 
@@ -30,6 +32,7 @@ pub fn command<S: AsStr, O: Write, E: Write>(
 ) -> u8
     ensures { result ≤ 2 }
 {
+    let files = &mut SystemFiles(rt);
     match read_words(rt.alloc(), words) {
         Ok(
             Request::Show {
@@ -39,7 +42,7 @@ pub fn command<S: AsStr, O: Write, E: Write>(
                 json: _,
                 profile: _,
             },
-        ) => status(export_file(rt, file, ExportForm::Gpx, out), err),
+        ) => status(export_file(files, file, ExportForm::Gpx, out), err),
         Ok(
             Request::Show {
                 file,
@@ -48,7 +51,7 @@ pub fn command<S: AsStr, O: Write, E: Write>(
                 profile: _,
                 gpx: false,
             },
-        ) => status(show_file(rt, file, utc, out), err),
+        ) => status(show_file(files, file, utc, out), err),
         Ok(
             Request::Show {
                 file,
@@ -59,19 +62,19 @@ pub fn command<S: AsStr, O: Write, E: Write>(
             },
         ) => {
             let form = ExportForm::Json { profile, utc };
-            status(export_file(rt, file, form, out), err)
+            status(export_file(files, file, form, out), err)
         }
-        Ok(Request::Check { file }) => status(check_file(rt, file, out), err),
-        Ok(Request::CheckEach { names, json }) => status(check_each(rt, &names, json, out), err),
-        Ok(Request::Table { file, form }) => table_chosen(rt, file, &form, out, err),
-        Ok(Request::TableEach { names, form }) => table_each_chosen(rt, &names, &form, out, err),
+        Ok(Request::Check { file }) => status(check_file(files, file, out), err),
+        Ok(Request::CheckEach { names, json }) => status(check_each(files, &names, json, out), err),
+        Ok(Request::Table { file, form }) => table_chosen(files, file, &form, out, err),
+        Ok(Request::TableEach { names, form }) => table_each_chosen(files, &names, &form, out, err),
         Ok(
             Request::Replay {
                 script,
                 folder,
                 checked,
             },
-        ) => status(replay_script(rt, script, folder, checked, out), err),
+        ) => status(replay_script(rt, files, script, folder, checked, out), err),
         Ok(Request::Record { folder, every }) => record_chosen(rt, folder, every, out, err),
         Ok(
             Request::Save {
@@ -80,7 +83,7 @@ pub fn command<S: AsStr, O: Write, E: Write>(
                 earlier,
             },
         ) => {
-            let done = save_folder(rt, folder, to, earlier, out, err);
+            let done = save_folder(files, folder, to, earlier, out, err);
             status(done, err)
         }
         Ok(
@@ -96,13 +99,13 @@ pub fn command<S: AsStr, O: Write, E: Write>(
             },
         ) => status(verify_folder(rt, folder, out).map(|_| ()), err),
         Ok(Request::Salvage { file, to, form }) => {
-            let done = salvage_file(rt, file, to, &form, out, err);
+            let done = salvage_file(files, file, to, &form, out, err);
             status(done, err)
         }
         Ok(Request::Split { file, folder, all }) => {
-            status(split_file(rt, file, folder, all, out), err)
+            status(split_file(files, file, folder, all, out), err)
         }
-        Ok(Request::Plain { file, to }) => status(make_plain(rt, file, to, out), err),
+        Ok(Request::Plain { file, to }) => status(make_plain(files, file, to, out), err),
         Ok(
             Request::Join {
                 to,
@@ -111,17 +114,17 @@ pub fn command<S: AsStr, O: Write, E: Write>(
                 as_given,
             },
         ) => {
-            let done = join_parts(rt, first, others.as_slice(), as_given, to, out);
+            let done = join_parts(files, first, others.as_slice(), as_given, to, out);
             status(done, err)
         }
-        Ok(Request::Shift { file, to, form }) => shift_chosen(rt, file, to, &form, out, err),
+        Ok(Request::Shift { file, to, form }) => shift_chosen(files, file, to, &form, out, err),
         Ok(
             Request::Simulate {
                 script,
                 choices,
                 checked,
             },
-        ) => simulate_chosen(rt, script, choices, checked, out, err),
+        ) => simulate_chosen(files, script, choices, checked, out, err),
         Ok(Request::Version) => status(print_version(out), err),
         Err(refusal) => refused(refusal, err),
     }
@@ -157,7 +160,7 @@ fn record_chosen<O: Write, E: Write>(
 
 // Prints the table of a file. It is read only if the words name messages and fields.
 fn table_chosen<O: Write, E: Write>(
-    rt: &HostRuntime,
+    files: &SystemFiles<'_>,
     file: &str,
     form: &TableForm<'_>,
     out: &mut O,
@@ -167,17 +170,17 @@ fn table_chosen<O: Write, E: Write>(
 {
     match Chosen::of(form) {
         Ok(chosen) if form.profile && form.fields.is_none() => {
-            let done = table_of_all(rt, file, &chosen.layout(form), out, err);
+            let done = table_of_all(files, file, &chosen.layout(form), out, err);
             status(done, err)
         }
-        Ok(chosen) => status(table_file(rt, file, &chosen.layout(form), out), err),
-        Err(why) => not_chosen(rt, why, err),
+        Ok(chosen) => status(table_file(files, file, &chosen.layout(form), out), err),
+        Err(why) => not_chosen(files.alloc(), why, err),
     }
 }
 
 // Prints one table of several files. They are read only if the words name messages and fields.
 fn table_each_chosen<O: Write, E: Write>(
-    rt: &HostRuntime,
+    files: &SystemFiles<'_>,
     names: &Names<'_>,
     form: &TableForm<'_>,
     out: &mut O,
@@ -187,21 +190,21 @@ fn table_each_chosen<O: Write, E: Write>(
 {
     match Chosen::of(form) {
         Ok(chosen) => {
-            let done = table_each(rt, names, &chosen.layout(form), out, err);
+            let done = table_each(files, names, &chosen.layout(form), out, err);
             status(done, err)
         }
-        Err(why) => not_chosen(rt, why, err),
+        Err(why) => not_chosen(files.alloc(), why, err),
     }
 }
 
 // Prints the text on words that name no messages or fields.
-fn not_chosen<E: Write>(rt: &HostRuntime, why: NotChosen<'_>, err: &mut E) -> u8
+fn not_chosen<E: Write>(alloc: Global, why: NotChosen<'_>, err: &mut E) -> u8
     ensures { result ≤ 2 }
 {
     let text = match why {
-        NotChosen::Message(word) => no_name(rt.alloc(), "--message <NAME>", word),
-        NotChosen::Field(word) => no_name(rt.alloc(), "--fields <NAMES>", word),
-        NotChosen::TooMany => too_many_fields(rt.alloc()),
+        NotChosen::Message(word) => no_name(alloc, "--message <NAME>", word),
+        NotChosen::Field(word) => no_name(alloc, "--fields <NAMES>", word),
+        NotChosen::TooMany => too_many_fields(alloc),
     };
     match text {
         Ok(refusal) => refused(refusal, err),
@@ -211,7 +214,7 @@ fn not_chosen<E: Write>(rt: &HostRuntime, why: NotChosen<'_>, err: &mut E) -> u8
 
 // Moves the times of a file. It is read only if the words say how.
 fn shift_chosen<O: Write, E: Write>(
-    rt: &HostRuntime,
+    files: &mut SystemFiles<'_>,
     file: &str,
     to: &str,
     form: &ShiftForm<'_>,
@@ -221,9 +224,9 @@ fn shift_chosen<O: Write, E: Write>(
     ensures { result ≤ 2 }
 {
     let text = match shift_by(form) {
-        Ok(by) => return status(make_shifted(rt, file, to, by, out), err),
-        Err(NotShift::By(word)) => no_shift(rt.alloc(), word),
-        Err(NotShift::Start(word)) => no_start(rt.alloc(), word),
+        Ok(by) => return status(make_shifted(files, file, to, by, out), err),
+        Err(NotShift::By(word)) => no_shift(files.alloc(), word),
+        Err(NotShift::Start(word)) => no_start(files.alloc(), word),
     };
     match text {
         Ok(refusal) => refused(refusal, err),
@@ -233,7 +236,7 @@ fn shift_chosen<O: Write, E: Write>(
 
 // Simulates a script. It is read only if the word for its choices spells bytes.
 fn simulate_chosen<O: Write, E: Write>(
-    rt: &HostRuntime,
+    files: &SystemFiles<'_>,
     script: &str,
     choices: &str,
     checked: bool,
@@ -242,12 +245,12 @@ fn simulate_chosen<O: Write, E: Write>(
 ) -> u8
     ensures { result ≤ 2 }
 {
-    match read_choices(rt.alloc(), choices) {
+    match read_choices(files.alloc(), choices) {
         Ok(Some(bytes)) => {
-            let done = simulate_script(rt, script, bytes.as_slice(), checked, out);
+            let done = simulate_script(files, script, bytes.as_slice(), checked, out);
             status(done, err)
         }
-        Ok(None) => match no_choices(rt.alloc(), choices) {
+        Ok(None) => match no_choices(files.alloc(), choices) {
             Ok(refusal) => refused(refusal, err),
             Err(refusal) => refused(refusal, err),
         },

@@ -13,7 +13,7 @@ loop-rest-preserved g c =
       (
         was.0 ++ name ∷ [],
         names_less _ was.0 rest _ name c.in-len1-up.len_at_least was.1 (c.as_str-name.ensures.value ∙ ap string_bytes c.first-item.is),
-        tables_more c.args.layout.now was.0 _ _ _ c.loop-rest.left_out c.left_out_in-left_out.result name c.in_ok-added.added
+        tables_more c.args.layout.now _ was.0 _ _ _ c.loop-rest.left_out c.left_out_in-left_out.result name c.in_ok-added.added
             c.left_out_in-left_out.ensures was.2 c.in_ok-added.ensures.lines,
       ),
     )

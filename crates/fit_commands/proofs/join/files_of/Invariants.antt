@@ -7,9 +7,9 @@ use Rattle.fit_commands.proofs.join.files_of.Given as goal
 
 abbrev pub invariant-loop-rest : goal.invariant-loop-rest
 invariant-loop-rest g l = record {
-  names : map (λ named. named.name) l.files.items ++ l.rest ≡ map (λ named. named.name) l.initial.files.items ++ l.others;
-  forms : AllByRecursion (λ named. IsFormOfFile named.file) l.files.items;
-  reported : (fault : Fault) → AreNoParts l.rest fault → AreNoParts l.others fault;
+  names : map (λ named. named.name) l.named.items ++ l.rest ≡ map (λ named. named.name) l.initial.named.items ++ l.others;
+  forms : AllByRecursion (λ named. IsFormOfFile (g.F.NamedFiles.held l.files named.name.now) named.file) l.named.items;
+  reported : (fault : Fault) → AreNoParts (g.F.NamedFiles.held l.files) l.rest fault → AreNoParts (g.F.NamedFiles.held l.files) l.others fault;
 }
 
 abbrev pub decreases-loop-rest : goal.decreases-loop-rest

@@ -24,7 +24,7 @@ err_from P (Err e) fault is why = subst P (sym is) why
 pub returns-in_err-put_parts-clause-reported : goal.returns-in_err-put_parts-clause-reported
 returns-in_err-put_parts-clause-reported g c =
     let given = c.in_ok-parts.parts.items in
-    let are = parts_lent (c.args.first ∷ c.args.others.now) c.in_ok-files.files.items given c.in_ok-files.ensures.files
+    let are = parts_lent (g.F.NamedFiles.held c.args.files.now) (c.args.first ∷ c.args.others.now) c.in_ok-named.named.items given c.in_ok-named.ensures.files
     (c.in_ok-parts.ensures.parts ∙ ap (map part_lent) c.as_slice.ensures.value) in
     err_from _ c.from_residual-in_err-put_parts.result c.in_err-put_parts.field-0.0 c.from_residual-in_err-put_parts.ensures.1
     (inr (inl (given, are, c.in_err-put_parts.ensures.reported)))
@@ -32,33 +32,33 @@ returns-in_err-put_parts-clause-reported g c =
 pub returns-in_default-clause-reported : goal.returns-in_default-clause-reported
 returns-in_default-clause-reported g c =
     let given = c.in_ok-parts.parts.items in
-    let are = parts_lent (c.args.first ∷ c.args.others.now) c.in_ok-files.files.items given c.in_ok-files.ensures.files
+    let are = parts_lent (g.F.NamedFiles.held c.args.files.now) (c.args.first ∷ c.args.others.now) c.in_ok-named.named.items given c.in_ok-named.ensures.files
     (c.in_ok-parts.ensures.parts ∙ ap (map part_lent) c.as_slice.ensures.value) in
-    none_put _ c.args.as_given c.args.first c.args.others.now given c.put_parts.new.parts.items are c.in_ok-put_parts.ensures.put
+    none_put _ _ c.args.as_given c.args.first c.args.others.now given c.put_parts.new.parts.items are c.in_ok-put_parts.ensures.put
     (subst (λ (l : List Part). length l < 1) c.as_slice-2.ensures.value c.in_default.len_below)
 
 pub join_put-requires-clause-first : goal.join_put-requires-clause-first
 join_put-requires-clause-first g c =
     let given = c.in_ok-parts.parts.items in
-    let are = parts_lent (c.args.first ∷ c.args.others.now) c.in_ok-files.files.items given c.in_ok-files.ensures.files
+    let are = parts_lent (g.F.NamedFiles.held c.args.files.now) (c.args.first ∷ c.args.others.now) c.in_ok-named.named.items given c.in_ok-named.ensures.files
     (c.in_ok-parts.ensures.parts ∙ ap (map part_lent) c.as_slice.ensures.value) in
     first_plain c.as_slice-2.result.now c.beginning-item.result c.in-len1-up.len_at_least c.beginning-item.is
     (subst (AllByRecursion IsPlainPart) (sym c.as_slice-2.ensures.value)
-    (plain_put c.args.as_given _ given c.put_parts.new.parts.items are c.in_ok-put_parts.ensures.put))
+    (plain_put _ c.args.as_given _ given c.put_parts.new.parts.items are c.in_ok-put_parts.ensures.put))
 
 pub join_put-requires-clause-others : goal.join_put-requires-clause-others
 join_put-requires-clause-others g c =
     let given = c.in_ok-parts.parts.items in
-    let are = parts_lent (c.args.first ∷ c.args.others.now) c.in_ok-files.files.items given c.in_ok-files.ensures.files
+    let are = parts_lent (g.F.NamedFiles.held c.args.files.now) (c.args.first ∷ c.args.others.now) c.in_ok-named.named.items given c.in_ok-named.ensures.files
     (c.in_ok-parts.ensures.parts ∙ ap (map part_lent) c.as_slice.ensures.value) in
     others_plain c.as_slice-2.result.now
     (subst (AllByRecursion IsPlainPart) (sym c.as_slice-2.ensures.value)
-    (plain_put c.args.as_given _ given c.put_parts.new.parts.items are c.in_ok-put_parts.ensures.put))
+    (plain_put _ c.args.as_given _ given c.put_parts.new.parts.items are c.in_ok-put_parts.ensures.put))
 
 pub returns-clause-joined : goal.returns-clause-joined
 returns-clause-joined g c =
     let given = c.in_ok-parts.parts.items in
-    let are = parts_lent (c.args.first ∷ c.args.others.now) c.in_ok-files.files.items given c.in_ok-files.ensures.files
+    let are = parts_lent (g.F.NamedFiles.held c.args.files.now) (c.args.first ∷ c.args.others.now) c.in_ok-named.named.items given c.in_ok-named.ensures.files
     (c.in_ok-parts.ensures.parts ∙ ap (map part_lent) c.as_slice.ensures.value) in
     let put = c.put_parts.new.parts.items in
     let slice = c.as_slice-2.result.now in

@@ -23,5 +23,5 @@ verified name WereRead contents story old new (Err why) (Ok stated) read is none
 pub returns : goal.returns
 returns g c =
     let is = rw (c.as_slice.ensures.value, c.as_slice-2.ensures.value) at c.in_ok-repaired.ensures.repaired in
-    verified c.args.name _ _ _ _ _ c.in_ok-repaired.repaired _ ((_, c.in_ok-in_data.ensures.all), (_, c.in_ok-in_journal.ensures.all))
+    verified c.args.name _ _ _ _ _ c.in_ok-repaired.repaired _ (c.in_ok-in_data.ensures.read, c.in_ok-in_journal.ensures.read)
     is c.in_ok-repaired.ensures.read c.stated_of.ensures

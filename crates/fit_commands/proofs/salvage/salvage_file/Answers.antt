@@ -1,24 +1,65 @@
-use Rattle.std.proofs.Common.{List, ℕ, ◌++◌, subst, arith}
-use Rattle.std.proofs.KnownBytes.{Appends-trans}
-use Rattle.std.proofs.lemmas.Result.{on_ok_weaker}
+use Rattle.std.proofs.Common.{List, ℕ, ◌++◌, rules, subst, refl, inl, inr}
 use Rattle.fit_files.specs.Printed.Kept.{heard_line, kept_lines}
-use Rattle.fit_commands.specs.Reported.{IsKeptOf, like_text}
+use Rattle.fit_commands.specs.Reported.{IsKeptOf, IsSalvagedOut, SalvagesNamed, like_text}
+use Rattle.fit_commands.proofs.Written.{ends_printed, stops, stops_form}
 use Rattle.fit_commands.proofs.salvage.salvage_file.Goals as goal
 
-pub returns-clause-saved : goal.returns-clause-saved
-returns-clause-saved g c =
-    on_ok_weaker c.print_like.result
-    (λ line. (
-      c.in_ok-like.like,
-      c.in_ok-like.ensures.like,
-      c.in_ok-read.read.bytes.items,
-      omega (arith, c.in_ok-read.ensures.most, c.in_ok-read.read.bytes.ok.0),
-      c.in_ok-kept.kept,
-      subst (λ (known : List ℕ). IsKeptOf c.args.form.now known c.in_ok-read.read.bytes.items c.in_ok-kept.kept) c.known_row.ensures c.in_ok-kept.ensures.kept,
-      c.salvage-salvage.result,
-      c.salvage-salvage.ensures,
-      c.in_ok-heard.heard,
-      c.in_ok-heard.ensures.made,
-      Appends-trans _ _ _ (kept_lines c.in_ok-kept.kept ++ heard_line c.in_ok-heard.heard) (like_text c.in_ok-like.like) c.in-Ok.ensures.lines.all line,
+pub returns-in_err-kept : goal.returns-in_err-kept
+returns-in_err-kept g c = inl (
+  c.in_err-kept.field-0.0,
+  stops _ _ c.from_residual-in_err-kept.ensures,
+  inr (
+    c.in_ok-like.like,
+    c.in_ok-like.ensures.like,
+    inr (c.in_ok-read.read, c.in_ok-read.ensures.read, inl (c.in_err-kept.ensures.reported, c.in_err-kept.ensures.whole)),
+  ),
+  refl,
+  refl,
+)
+
+pub returns-in_err-heard : goal.returns-in_err-heard
+returns-in_err-heard g c =
+    let like = c.in_ok-like.like in
+    let kept = c.in_ok-kept.kept in
+    let kept_is = subst (λ (known : List ℕ). IsKeptOf c.args.form.now known c.in_ok-read.read.bytes.items kept) c.known_row.ensures c.in_ok-kept.ensures.kept in
+    stops_form (SalvagesNamed c.args.form.now (g.F.NamedFiles.held c.args.files.now) c.args.name) IsSalvagedOut c.args.form.now c.salvage-salvage.result _ _ _ _ _ _
+    (stops _ _ c.from_residual-in_err-heard.ensures)
+    (λ not. inr (like, c.in_ok-like.ensures.like, inr (c.in_ok-read.read, c.in_ok-read.ensures.read, inr (kept, kept_is, not))))
+    (λ heard bytes made. (
+      record { like = like; kept = kept; heard = heard; bytes = bytes },
+      (c.in_ok-like.ensures.like, c.in_ok-read.read, c.in_ok-read.ensures.read, kept_is, c.salvage-salvage.result, c.salvage-salvage.ensures, made),
+      (kept_lines kept ++ heard_line heard) ++ like_text like,
+      (refl, refl),
     ))
-    c.print_like.ensures.line
+    c.in_err-heard.ensures
+
+pub returns-in-Err : goal.returns-in-Err
+returns-in-Err g c =
+    let like = c.in_ok-like.like in
+    let kept = c.in_ok-kept.kept in
+    let wrote = c.in_ok-heard.ensures in
+    let kept_is = subst (λ (known : List ℕ). IsKeptOf c.args.form.now known c.in_ok-read.read.bytes.items kept) c.known_row.ensures c.in_ok-kept.ensures.kept in
+    inr (
+      record { like = like; kept = kept; heard = c.in_ok-heard.heard; bytes = wrote.0 },
+      (c.in_ok-like.ensures.like, c.in_ok-read.read, c.in_ok-read.ensures.read, kept_is, c.salvage-salvage.result, c.salvage-salvage.ensures, wrote.1),
+      wrote.0,
+      (kept_lines kept ++ heard_line c.in_ok-heard.heard) ++ like_text like,
+      (refl, refl),
+      inr (search rules, wrote.2),
+    )
+
+pub returns : goal.returns
+returns g c =
+    let like = c.in_ok-like.like in
+    let kept = c.in_ok-kept.kept in
+    let wrote = c.in_ok-heard.ensures in
+    let kept_is = subst (λ (known : List ℕ). IsKeptOf c.args.form.now known c.in_ok-read.read.bytes.items kept) c.known_row.ensures c.in_ok-kept.ensures.kept in
+    inr (
+      record { like = like; kept = kept; heard = c.in_ok-heard.heard; bytes = wrote.0 },
+      (c.in_ok-like.ensures.like, c.in_ok-read.read, c.in_ok-read.ensures.read, kept_is, c.salvage-salvage.result, c.salvage-salvage.ensures, wrote.1),
+      wrote.0,
+      (kept_lines kept ++ heard_line c.in_ok-heard.heard) ++ like_text like,
+      (refl, refl),
+      ends_printed wrote.0 (kept_lines kept ++ heard_line c.in_ok-heard.heard) (like_text like) _ _ _ _ _ _ c.print_like.result wrote.2
+          c.in-Ok.ensures.lines.all c.print_like.ensures.line c.print_like.ensures.fault,
+    )

@@ -3,11 +3,12 @@ use Rattle.std.proofs.KnownBytes.{Appends-nil, Appends-trans}
 use Rattle.std.proofs.lemmas.List.{nil_from_length}
 use Rattle.fit_mending.specs.declared.chained.Part.{Part}
 use Rattle.fit_files.specs.Printed.Parts.{AreLines}
-use Rattle.fit_commands.proofs.Parts.{begins_all, begins_then, first_of, line_of, lines_more, lines_stop, split_more}
+use Rattle.fit_commands.specs.Reported.{WritesParts}
+use Rattle.fit_commands.proofs.Parts.{begins_all, begins_then, first_of, line_of, lines_more, lines_stop, split_more, written_more}
 use Rattle.fit_commands.proofs.split.write_parts.Goals as goal
 
 pub loop-rest-init : goal.loop-rest-init
-loop-rest-init g c = ([], [], refl, refl, Appends-nil (g.O.Write.contents c.args.out.now))
+loop-rest-init g c = ([], [], refl, refl, Appends-nil (g.O.Write.contents c.args.out.now), λ name. refl)
 
 pub loop-rest-preserved : goal.loop-rest-preserved
 loop-rest-preserved g c =
@@ -20,6 +21,7 @@ loop-rest-preserved g c =
       split_more _ was.0 _ _ part was.2 (first_of rest _ c.in-len1-up.len_at_least),
       lines_more was.0 was.1 part printed.0 was.3 printed.1,
       Appends-trans _ _ _ was.1 _ was.4 printed.2.all,
+      written_more c.args.folder.now was.0 part _ _ _ was.5 c.in_ok-write_part.ensures.written,
     )
 
 pub returns-in_err-write_part-clause-lines : goal.returns-in_err-write_part-clause-lines
@@ -50,3 +52,10 @@ returns-clause-lines g c =
       subst (λ (parts : List Part). AreLines parts was.1) (sym all) was.3,
       was.4,
     )
+
+pub returns-clause-written : goal.returns-clause-written
+returns-clause-written g c =
+    let was = c.loop-rest.invariant in
+    let none = nil_from_length c.loop-rest.rest.now (omega (arith, c.in_default.len_below)) in
+    let all = was.2 ∙ ap (λ (r : List Part). was.0 ++ r) none ∙ append-nil was.0 in
+    subst (λ (parts : List Part). WritesParts c.args.folder.now parts (g.F.NamedFiles.held c.args.files.now) (g.F.NamedFiles.held c.loop-rest.files)) (sym all) was.5
