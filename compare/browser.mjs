@@ -22,21 +22,22 @@
 //     { reload }          opens it anew, without a network
 //
 // Where a ride is asked for, it waits for the answer. An answer has what the page shows after each step, what each step made (the value of
-// an expression, the path of a download), each request, and each line that the browser logged.
+// an expression, the path of a download), each request, and each line that the browser logged. A browser that ends by itself, or does not
+// answer, is started once more for that visit, and this is said on standard error.
 
 import { mkdtempSync, readFileSync, readdirSync, rmSync, statSync, writeFileSync } from 'node:fs';
 import { join } from 'node:path';
 
 const [name, page, folder] = process.argv.slice(2);
-const browser = await (await import(`./tools/${name}.mjs`)).start(folder);
+const { start } = await import(`./tools/${name}.mjs`);
+const GONE = 'the browser is gone';
 
 const pause = milliseconds => new Promise(done => setTimeout(done, milliseconds));
 
 async function until(holds) {
-  for (let tries = 0; tries < 3000; tries++) {
+  for (const begun = Date.now(); Date.now() < begun + 300_000; await pause(10)) {
     const found = await holds();
     if (found) return found;
-    await pause(10);
   }
   throw new Error('waited too long');
 }
@@ -48,7 +49,7 @@ const SHOWN = `(() => {
   const nameOf = it => it.getAttribute('aria-label') || it.getAttribute('aria-labelledby') || it.innerText
     || (it.labels && it.labels[0] || {}).innerText || '';
   return { heading: text('heading'), reason: text('reason'), next: text('next'), focus: document.activeElement.id,
-    list: all('#rides tbody tr', row => [...row.cells].map(it => it.innerText)), listHeading: text('listHeading'),
+    list: all('#rides tbody tr', row => [...row.cells].map(it => it.innerText)), listHeading: text('listHeading'), listNote: text('listNote'),
     numbers: Object.fromEntries(all('dl > div', it => [it.children[0].innerText, [...it.children].slice(1).map(own => own.innerText).join(' ')])),
     pictures: all('figure', it => it.querySelector('figcaption strong').innerText),
     captions: Object.fromEntries(all('figure.chart figcaption', it => [it.children[0].innerText, it.children[1].innerText])),
@@ -140,7 +141,10 @@ const STEPS = {
   },
 };
 
+let browser;
+
 async function visited({ steps, unread, address = 'file://' + page, ...how }) {
+  browser ??= await start(mkdtempSync(join(folder, name + '-')));
   const tab = await browser.open({ ...WINDOW, ...how }), made = [], shown = [], failed = [];
   try {
     await tab.go(address);
@@ -152,13 +156,24 @@ async function visited({ steps, unread, address = 'file://' + page, ...how }) {
       shown.push(await tab.evaluate(SHOWN));
     }
   } catch (error) {
+    if (error.message.includes(GONE)) throw error;
     failed.push(String(error.stack));
   }
   await tab.close();
   return { made, shown, requests: tab.requests, logged: [...tab.logged, ...failed] };
 }
 
+// The longest visits take a tenth of this on a slow machine.
+const soon = answer => Promise.race([answer, pause(400_000).then(() => { throw new Error(GONE + ': it does not answer'); })]);
+
 const answers = [];
-for (const visit of JSON.parse(readFileSync(0, 'utf8'))) answers.push(await visited(visit));
-process.stdout.write(JSON.stringify(answers));
-await browser.end();
+for (const visit of JSON.parse(readFileSync(0, 'utf8'))) {
+  answers.push(await soon(visited(visit)).catch(error => {
+    console.error(`${name}, visit ${answers.length}, once more: ${error.message}`);
+    browser?.kill();
+    browser = undefined;
+    return soon(visited(visit));
+  }));
+}
+await soon(browser?.end());
+process.stdout.write(JSON.stringify(answers), () => process.exit());

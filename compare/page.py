@@ -17,20 +17,23 @@ import subprocess
 import sys
 import tempfile
 
+import joining
 from columns import refusal_of, rows_of
 from shifting import start_of
 from tools import reader, release
 from tools.checks import differs, unless
 from tools.fit_files import damaged, image, made, short
 from tools.libraries import build
-from tools.library_calls import of_files, of_finished, of_mended, of_recordings, of_shifted, of_shown_and_checked
+from tools.library_calls import of_files, of_finished, of_joined, of_mended, of_recordings, of_shifted, of_shown_and_checked
 from tools.needs import missing
 from tools.page_app import of_a_long_ride, of_an_app
 from tools.page_cards import of_cards, of_long_cards
-from tools.page_clocks import of_clocks, of_other_clocks
+from tools.page_clocks import of_clocks, of_other_clocks, of_set_clocks
 from tools.page_files import of_choosing, of_inputs, of_lists
 from tools.page_forms import of_archives, of_exports
-from tools.page_holes import of_chains, of_ends_and_pauses, of_holes, of_no_messages
+from tools.page_halves import of_halves
+from tools.page_holes import (of_chains, of_ends_and_pauses, of_holes, of_leaps, of_no_messages, of_silences, of_unread_ends,
+                              of_what_is_lost)
 from tools.page_layout import of_layout, of_many_laps
 from tools.page_people import of_choices, of_kept_choices, of_people
 from tools.page_rides import of_looking, of_numbers
@@ -43,8 +46,8 @@ from tools.visits import PAGE, Browser
 NEEDS = ("fitrec", "rt", "node", "wasm-opt", "esbuild", "tsc", "chromium", "firefox-esr", "WebKitWebDriver", "Xvfb")
 WEB, MODULE = ROOT / "web", ROOT / "compare/module.mjs"
 GROUPS = (of_inputs, of_words, of_choosing, of_lists, of_archives, of_cards, of_long_cards, of_holes, of_no_messages, of_ends_and_pauses,
-          of_chains, of_numbers, of_values, of_looking, of_exports, of_layout, of_many_laps, of_people, of_choices, of_kept_choices,
-          of_clocks, of_other_clocks, of_an_app, of_a_long_ride)
+          of_chains, of_leaps, of_silences, of_unread_ends, of_what_is_lost, of_numbers, of_values, of_looking, of_exports, of_layout,
+          of_many_laps, of_people, of_choices, of_kept_choices, of_clocks, of_set_clocks, of_other_clocks, of_halves, of_an_app, of_a_long_ride)
 # The browsers, what drives each, and the groups of visits that it makes. Chromium makes all, and the others those that show whether a browser
 # does what the page asks of it. What WebKit has no way to, such as a narrow window, is left out of its visits.
 BROWSERS = {
@@ -114,6 +117,10 @@ def of_calls(fitrec, many, seed):
         of_part = {**of_card, "files": of_card["files"][:1], "next": places[2]}
         run(fitrec, "shift", "--by", "-3600", folder / "ride.fit", folder / "moved.fit")
         moved = (folder / "moved.fit").read_bytes()
+        # An hour earlier, and joined in the order of their times.
+        run(fitrec, "join", folder / "joined.fit", folder / "ride.fit", folder / "moved.fit")
+        _, taken, left_out = joining.heard(joining.joined([joining.stated(it) for it in (moved, ride)]))
+        joined = {"file": (folder / "joined.fit").read_bytes().hex(), "heard": taken, "leftOut": left_out}
         said = run(fitrec, "salvage", "--skip", folder / "hole.fit", folder / "skipped.fit")[1]
         skipped = {**pieces_of(said, hole[0]), "file": (folder / "skipped.fit").read_bytes().hex()}
         rest = [("save", both(torn), {"file": ride.hex(), "summary": summary, "uncommitted": 0}),
@@ -122,7 +129,9 @@ def of_calls(fitrec, many, seed):
                 ("check", [folder / "kept.fit"], {"kind": "NoSession"}), ("finish", [folder / "kept.fit"], finished),
                 ("finish", [torn / NAMES[1]], {"kind": "HeaderSize", "place": 0}), ("plain", [folder / "mended" / NAMES[0]], ride.hex()),
                 ("shift", [folder / "ride.fit"], moved.hex()), ("shift", [torn / NAMES[1]], {"kind": "HeaderSize", "place": 0}),
-                ("shiftStart", [folder / "ride.fit"], moved.hex()),
+                ("shiftStart", [folder / "ride.fit"], moved.hex()), ("join", [folder / "ride.fit", folder / "moved.fit"], joined),
+                ("join", [folder / "ride.fit", folder / "ride.fit"], {"kind": "Overlap"}),
+                ("join", [folder / "ride.fit", torn / NAMES[1]], {"kind": "HeaderSize", "place": 0}),
                 ("uncommitted", both(torn), 0), ("leaveChanged", both(torn), None), ("salvage", [torn / NAMES[1]], {"kind": "HeaderSize"}),
                 ("skip", [folder / "hole.fit"], skipped), ("skip", [torn / NAMES[1]], {"kind": "HeaderSize"}),
                 ("split", [folder / "chain.fit"], [ride.hex(), ride.hex(), "0001"]), ("find", [folder / "card.img"], of_card),
@@ -181,7 +190,7 @@ def check(given):
     os.environ["FITREC_MODULE"] = str(WEB / "out/fit_c.wasm")
     count = given.files // 250
     for group, many in ((of_recordings, count), (of_files, count // 2), (of_mended, count // 4), (of_finished, count // 4),
-                        (of_shifted, count // 4), (of_shown_and_checked, count // 4)):
+                        (of_shifted, count // 4), (of_joined, count // 4), (of_shown_and_checked, count // 4)):
         yield from given.checks(group, given.fitrec, MODULE, many, given.seed, under="module")
     yield from given.checks(of_calls, given.fitrec, given.files // 60, given.seed)
     for name, (_, groups) in BROWSERS.items():

@@ -1,6 +1,5 @@
 // What the workers are asked, and the answer to a ride.
 
-import { inflated } from './inflating.js';
 import { bytesOf, keptOf } from './picking.js';
 import { isLittle } from './telling.js';
 import { progress } from './waiting.js';
@@ -15,7 +14,7 @@ for (const worker of [saver, painter]) worker.onmessage = ({ data: { number, ste
 };
 
 // The module of the library is compiled once, for both.
-inflated(window.fitrec.module).then(it => WebAssembly.compile(it)).then(module => [saver, painter].forEach(it => it.postMessage({ module })));
+window.fitrec.module.then(it => WebAssembly.compile(it)).then(module => [saver, painter].forEach(it => it.postMessage({ module })));
 
 let count = 0;
 /** @param {Worker} worker @param {object} about @param {Transferable[]} [lent] @returns {Promise<any>} */
@@ -56,7 +55,7 @@ export async function ask(ride, how, seconds = 0) {
     return failure([error instanceof RangeError ? 'tooLarge' : 'unread']);
   }
   progress(1);
-  const lent = [given.data, given.journal].filter(it => it && it.length).map(it => it.buffer);
+  const lent = [given.data, given.journal, ...(given.parts || [])].filter(it => it && it.length).map(it => it.buffer);
   const answer = await question(saver, { ride: { ...given, seconds }, how }, lent);
   if (answer.failed) return failure([answer.failed]);
   const { shown = answer.file, ...said } = answer;
@@ -65,23 +64,24 @@ export async function ask(ride, how, seconds = 0) {
   const before = ahead && (isSaved ? closed(await ahead, summary) : isSame && await ahead);
   const seen = before || await drawn([shown], { records, gaps, isOurs });
   if (seen.failed) return failure([seen.failed]);
-  if (said.file && said.heading !== 'otherKind' && !seen.added.records && !seen.laps.count && !seen.sums.sessions) return ofNoSample(said, journal);
+  if (said.file && said.heading !== 'otherKind' && !seen.added.records && !seen.laps.count && !seen.sums.sessions) return ofNoSample(said, ride);
   return { ...said, heading: headingOf(said, seen), ride: seen };
 }
 
 // Where not a single sample is there: none was recorded, or none can be read.
-/**
- * @param {Answer} said @param {Blob} [journal]
- * @returns {Answer}
- */
-function ofNoSample({ gaps, details }, journal) {
-  const isLost = gaps && gaps.length, /** @type {Said[]} */ next = [[journal ? 'copyNext' : 'notFitNext']];
-  return { ...failure([isLost ? 'noMessage' : 'emptyWhy']), ...(isLost ? { next } : { heading: 'empty' }), details };
+/** @param {Answer} said @param {Files} ride @returns {Answer} */
+function ofNoSample({ gaps, details, isCut, isUnknown, next: asked }, { journal, name }) {
+  if (!isCut && !(gaps && gaps.length)) return { ...failure(['emptyWhy']), heading: 'empty', details };
+  const isShort = gaps.every(it => it.isLast) && details.some(([key]) => key === 'faultTruncated');
+  /** @type {Said[]} */
+  const next = isUnknown ? asked : [[journal ? 'copyNext' : isShort ? 'emptyAloneNext' : 'notFitNext']];
+  return { ...failure([isShort ? 'cutAtOnce' : 'noMessage', { name }]), next, details, isUnknown };
 }
 
-// A ride of which a few seconds are missing is there.
-function headingOf({ heading, reasons }, { missing }) {
-  const isCut = reasons.some(([key]) => /^cut/.test(key)), isThere = missing.length && missing.every(isLittle);
+// A ride of which a few seconds are missing is there, and one without samples is not.
+function headingOf({ heading, reasons }, { missing, added }) {
+  if (!added.records && ['rescued', 'mostly', 'partly'].includes(heading)) return 'totals';
+  const isCut = reasons.some(([key]) => /^(cut|olderAfter)/.test(key)), isThere = missing.length && missing.every(isLittle);
   return heading === 'mostly' && isThere && !isCut ? 'rescued' : heading;
 }
 

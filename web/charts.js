@@ -1,7 +1,8 @@
 // The curves of a ride over one axis of time, and what is read from them at a time.
 
+import { dateOf, isDated } from './dates.js';
 import { make, path, placed, svg } from './dom.js';
-import { bareText, clockText, dateOf, distanceText, isDated, isPace, momentText, nameText, numberText, text, unitOf, valueText,
+import { bareText, clockText, distanceText, isPace, momentText, nameText, numberText, text, unitOf, valueText,
   zoneText } from './formats.js';
 import { niceStep } from './grid.js';
 import { followTrack, noteOf, pointAt } from './track.js';

@@ -1,7 +1,8 @@
 // The question when a ride began, and the moving of all its times by the answer.
 
+import { EARLIEST, isReset, timeIn } from './dates.js';
 import { make } from './dom.js';
-import { dateText, EARLIEST, fieldText, isOff, isReset, latest, text, timeIn } from './formats.js';
+import { dateText, fieldText, isOff, latest, text } from './formats.js';
 import { headingText, wordsOf } from './telling.js';
 
 // What the clock said at the start, before anything was moved, and whether that cannot be: then at the end too, since a clock that is set on
@@ -20,7 +21,7 @@ export function questionOf({ said, isWrong }, { seconds = 0, ride }, move) {
   const field = make('input', { id: 'began', type: 'datetime-local', required: true, min: EARLIEST, max: latest(), step, value });
   const why = isWrong ? make('p', { id: 'beganWhy' }, text('clockWrong', { date: dateText(said) })) : null;
   const answer = make('button', { id: 'moveTimes', className: isAsked ? '' : 'second' }, text('moveTimes'));
-  const back = make('button', { type: 'button', id: 'keepTimes', className: 'second', hidden: !seconds }, text('keepTimes'));
+  const back = make('button', { type: 'button', id: 'keepTimes', className: 'second', hidden: !seconds }, text('offer_times'));
   const form = make('form', { className: 'clock' }, why, make('label', { htmlFor: 'began' }, headingText('began', wordsOf(ride))),
     make('p', { className: 'buttons' }, field, answer, back));
   if (why) field.setAttribute('aria-describedby', why.id);

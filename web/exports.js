@@ -1,6 +1,6 @@
 // A ride as a table of its samples, and as a track.
 
-import { dateOf, isDated } from './formats.js';
+import { dateOf, isDated } from './dates.js';
 
 const COLUMNS_OF = { speed: 'speed_kmh', heart: 'heart_rate_bpm', height: 'altitude_m', power: 'power_w', cadence: 'cadence_rpm',
   warmth: 'temperature_c' };

@@ -15,7 +15,7 @@ const ABSENT = 0xFFFFFFFF, PAGE = 65536;
 // Where files are looked for: how often as many bytes as there are may be read in vain, and how many bytes of a header have its mark.
 export const MOST_PASSES = 32, MARKED = 12;
 
-// Why bytes are no FIT file; why a file is no activity; why a ride is not saved, salvaged, moved or finished.
+// Why bytes are no FIT file; why a file is no activity; why a ride is not saved, salvaged, moved, joined or finished.
 const FAULTS = { 1: 'Truncated', 2: 'HeaderSize', 3: 'Magic', 4: 'Protocol', 5: 'HeaderCrc', 6: 'UndefinedLocal', 7: 'SplitMessage',
   8: 'FileCrc', 9: 'TrailingBytes' };
 const CHECKED = { ...FAULTS, 11: 'NoFileId', 12: 'NotActivity', 13: 'NoLap', 14: 'NoSession', 15: 'NoActivity' };
@@ -23,6 +23,7 @@ const SAVED = { 7: 'NothingRecorded', 8: 'Damaged', 16: 'Changed' };
 const SALVAGED = { 1: 'Truncated', 2: 'HeaderSize', 3: 'Magic', 4: 'Protocol', 22: 'TooLarge' };
 const PLAIN = { ...FAULTS, 21: 'TooLong' };
 const SHIFTED = { ...PLAIN, 27: 'NoTime', [TOO_FAR]: 'TimeTooFar' };
+const JOINED = { ...PLAIN, 29: 'OtherSport', 30: 'Overlap', 32: 'TooManyFiles' };
 const FINISHED = { ...FAULTS, 12: 'NotActivity', 21: 'TooLarge', 26: 'NoSample' };
 
 // Why something was refused: its kind, such as 'Damaged', and the place in bytes, if a byte is at fault.
@@ -210,6 +211,19 @@ export async function open(source) {
       const at = memory.put(file), out = memory.room(room), length = memory.number(), counts = memory.room(16), place = memory.number();
       refuseUnless0(memory.call('fitrec_finish', at, file.length, out, room, length, counts, place), FINISHED, memory.long(place));
       return { file: memory.copy(out, memory.long(length)), heard: memory.long(counts), leftOut: memory.long(counts + 8) };
+    },
+
+    // One activity of several files, in the order of their times or as they are given, with what `finish` adds and counts.
+    async join(files, asGiven = false) {
+      const parts = [];
+      for (const file of files) {
+        const memory = await fresh(), at = memory.put(file), time = memory.number(ABSENT), place = memory.number();
+        memory.call('fitrec_first_time', at, file.length, time, place);
+        parts.push({ time: memory.long(time), file: await fitrec.plain(file) });
+      }
+      if (!asGiven) parts.sort((a, b) => a.time - b.time);
+      const all = new Uint8Array(await new Blob(parts.map(it => it.file)).arrayBuffer());
+      return fitrec.finish(await written('fitrec_join', JOINED, all, all.length + 1024, Boolean(asGiven)));
     },
 
     // The file with every time in full.

@@ -1,8 +1,7 @@
 // Numbers and times in the language and the units that are chosen.
 
+import { dateOf, EPOCH, isDated, isReset, timeIn } from './dates.js';
 import { TEXTS } from './texts.js';
-
-const EPOCH = 631065600, FIRST_DATE = 0x10000000;
 
 export const LANGUAGES = { en: 'English', de: 'Deutsch', fr: 'Français', es: 'Español', it: 'Italiano' };
 // What `speak` sets: the language, its region, and what formats in it, which takes long to make.
@@ -51,7 +50,7 @@ const two = n => String(n).padStart(2, '0');
 
 /** @param {number} ms */
 export function durationText(ms) {
-  const seconds = Math.floor(ms / 1000);
+  const seconds = Math.round(ms / 1000);
   return `${Math.floor(seconds / 3600)}:${two(Math.floor(seconds / 60) % 60)}:${two(seconds % 60)}`;
 }
 
@@ -63,11 +62,6 @@ function lengthText({ ms, cm }) {
   return cm > 0 ? `${length} (${distanceText(cm)})` : length;
 }
 
-// A time in seconds since 1989-12-31 00:00 UTC is a date from FIRST_DATE on, and below counts from when the device was switched on.
-/** @type {(t: number) => boolean} */
-export const isDated = t => t >= FIRST_DATE && t < 0xFFFFFFFF;
-/** @type {(t: number) => Date} */
-export const dateOf = t => new Date((t + EPOCH) * 1000);
 const shownTime = (t, times) => isDated(t) ? times.format(dateOf(t)) : durationText(1000 * t);
 /** @type {(t: number) => string} */
 export const startText = t => shownTime(t, START), momentText = t => shownTime(t, MOMENT);
@@ -87,19 +81,13 @@ export function dayText(t) {
 /** @type {(t: number) => string} */
 export const dateText = t => START.format(dateOf(t));
 
-// Between these a ride may begin: from the first second of 2000 to the end of today. Both are what a field for a time takes, in the
-// browser's zone.
-export const EARLIEST = '2000-01-01T00:00', latest = () => fieldText(Math.floor(new Date().setHours(23, 59, 59) / 1000) - EPOCH);
+// The end of today, up to which a ride may begin, as a field for a time takes it.
+export const latest = () => fieldText(Math.floor(new Date().setHours(23, 59, 59) / 1000) - EPOCH);
 
-// A time as such a field has it, and back.
 /** @type {(t: number) => string} */
 export const fieldText = t => `${dayText(t)}T${[dateOf(t).getHours(), dateOf(t).getMinutes(), dateOf(t).getSeconds()].map(two).join(':')}`;
-/** @type {(value: string) => number} */
-export const timeIn = value => new Date(value).getTime() / 1000 - EPOCH;
 
-// Whether a clock that says this began anew: many do so on the first of January of an early year; and whether it is wrong.
-/** @type {(t: number) => boolean} */
-export const isReset = t => t < timeIn(EARLIEST) || /^20(0.|1[01])-01-01/.test(dateOf(t).toISOString());
+// Whether a clock that says this is wrong.
 /** @type {(t: number) => boolean} */
 export const isOff = t => !(t <= timeIn(latest())) || isReset(t);
 

@@ -4,13 +4,14 @@ import { ask, drawn, failure, question, saver } from './asking.js';
 import { chartsOf, readerOf } from './charts.js';
 import { chooserOf, chosen } from './choices.js';
 import { clockOf, questionOf } from './clock.js';
+import { isDated } from './dates.js';
 import { byId, make } from './dom.js';
-import { dayText, isDated, LANGUAGE, LANGUAGES, measureIn, nameText, speak, SYSTEM, SYSTEMS, text } from './formats.js';
+import { dayText, LANGUAGE, LANGUAGES, measureIn, nameText, speak, SYSTEM, SYSTEMS, text } from './formats.js';
 import { lapTable } from './laps.js';
-import { filesOf, keep, ridesIn, ridesOf } from './picking.js';
+import { filesOf, keep, pairsIn, ridesIn, ridesOf } from './picking.js';
 import { shortRide } from './rehearsal.js';
 import { isOpen, link, offer, tookIt } from './taking.js';
-import { factsIn, headingText, numbersOf, speedOf, told, wordsOf } from './telling.js';
+import { factsIn, headingText, numbersOf, partsAmong, speedOf, told, wordsOf } from './telling.js';
 import { placeOn, trackPicture } from './track.js';
 import { unpacked } from './unpacking.js';
 import { work, workOn } from './waiting.js';
@@ -19,7 +20,7 @@ import { zipOf } from './zip.js';
 // ---- what was chosen
 
 // Each choice has a number: the answer to an earlier one is not shown. What is shown is kept, to be shown in another language.
-let rides = [], current = null, turn = 0, shownAnswer = null, shownOthers = 0;
+let rides = [], current = null, turn = 0, shownAnswer = null, shownNotes = [], others = 0;
 
 // The ride that is shown with the one file that is chosen, if it lacks that; or null.
 function completed([ride, ...more]) {
@@ -29,21 +30,37 @@ function completed([ride, ...more]) {
   return null;
 }
 
+// A ride that tells nothing of how to read it, as another one of its device tells it; null if that does not either.
+async function readLike(ride, { data, name }) {
+  const like = { ...ride, like: data, likeName: name, how: null }, { ride: drawn, isUnknown, heading } = await ask(like, []);
+  return drawn && drawn.time.length && !isUnknown && heading !== 'otherKind' ? like : null;
+}
+
 async function take(files) {
   const mine = ++turn;
   work(true);
   byId('list').hidden = byId('result').hidden = true;
   try {
-    const { rides: found, others } = await ridesOf(await unpacked(await files, () => mine === turn));
+    const { files: chosen, cut } = await unpacked(await files, () => mine === turn), { rides: found, others: rest } = await ridesOf(chosen);
     for (const ride of found) if (mine === turn) await keep(ride);
+    const same = await pairsIn(found), isRefused = found.some(it => it.isArchive);
+    /** @type {Said[]} */
+    const notes = isRefused ? [] : cut.map(name => ['archiveCut', { name }]), images = chosen.filter(it => it.isPart).map(it => it.folder);
+    for (const it of new Set(images)) notes.push(['onlyWhole', { name: it.slice(0, -1) }]);
+    if (same.length > 1) notes.push(['sameFiles', { count: same.length }]);
+    else for (const [own, other] of same) notes.push(['sameFile', { name: own.folder + own.name, other: other.folder + other.name }]);
     if (mine !== turn) return;
-    const whole = completed(found);
+    const own = completed(found), isHelp = !own && current && current.isUnknown && found.length === 1 && found[0].data;
+    const whole = isHelp ? await readLike(current, found[0]) : own;
+    if (mine !== turn) return;
     if (whole) {
       rides = rides.map(it => it === current ? whole : it);
       return await choose(whole);
     }
+    if (isHelp) notes.push(['likeNot', { name: current.name, like: found[0].name }]);
+    if (found.length === 1) found[0].said = notes;
     rides = found;
-    shownOthers = others;
+    [shownNotes, others] = [notes, rest];
     await (rides.length > 1 ? presentAll(mine) : choose(rides[0] || null));
   } catch (error) {
     if (mine !== turn) return;
@@ -63,7 +80,7 @@ async function choose(ride, how = ride && ride.how || [], seconds = ride && ride
   if (mine !== turn) return;
   if (answer.parts) {
     rides = ridesIn(ride, answer.parts);
-    shownOthers = 0;
+    [shownNotes, others] = [[], 0];
     return presentAll(mine);
   }
   const isNew = ride && (how !== ride.how || seconds !== ride.seconds);
@@ -76,22 +93,26 @@ async function choose(ride, how = ride && ride.how || [], seconds = ride && ride
 
 // What the list says of a ride, and by which offers it was made, with its times moved by how many seconds.
 function note(ride, how, answer) {
-  const { heading, file, seconds = 0 } = answer, facts = factsIn(answer);
+  const { heading, file, seconds = 0, isUnknown } = answer, facts = factsIn(answer);
   name(ride, answer, facts.of.start);
-  Object.assign(ride, { how, seconds, heading, file, words: wordsOf(answer.ride), facts, isTaken: false, isDownloaded: false });
+  Object.assign(ride, { how, seconds, heading, file, isUnknown, words: wordsOf(answer.ride), facts,
+    from: answer.ride && answer.ride.distance.find(it => it >= 0), isTaken: false, isDownloaded: false });
 }
 
 // The name of a new file: by the day on which the activity began, where the browser is.
 function name(ride, answer, start) {
   const original = ride.name.replace(/\.[^.]*$/, ''), isDay = isDated(start);
   const base = isDay ? `${dayText(start)}-${wordsOf(answer.ride)}` : answer.file ? original + '-rescued' : original;
-  const taken = rides.filter(it => it !== ride && it.file).map(it => it.saved);
+  const taken = rides.filter(it => it !== ride && it.file && !(ride.halves || []).includes(it)).map(it => it.saved);
   ride.saved = base + '.fit';
   for (let count = 2; answer.file && taken.includes(ride.saved); count++) ride.saved = `${base}-${count}.fit`;
   answer.name = ride.saved;
 }
 
 // ---- several rides
+
+// So many of them are asked how to read another.
+const HELPERS = 3;
 
 async function presentAll(mine) {
   current = null;
@@ -105,6 +126,19 @@ async function presentAll(mine) {
       continue;
     }
     note(ride, [], answer);
+  }
+  // Others of the same choice may tell how to read those that do not.
+  for (const ride of rides.filter(it => it.isUnknown)) {
+    for (const other of rides.filter(it => it.heading === 'whole').slice(0, HELPERS)) {
+      const like = await readLike(ride, other);
+      if (mine !== turn) return;
+      if (!like) continue;
+      const answer = await ask(like, []);
+      if (mine !== turn) return;
+      rides[rides.indexOf(ride)] = like;
+      note(like, [], answer);
+      break;
+    }
   }
   await list();
   if (mine !== turn) return;
@@ -126,14 +160,26 @@ async function list() {
   byId('list').hidden = false;
 }
 
+// Offers to join the files of what look like parts of one activity.
+function offerToJoin() {
+  byId('halves').replaceChildren(...partsAmong(rides).flatMap(halves => {
+    const name = halves.map(it => it.name).join(' + '), button = make('button', { type: 'button' }, text('joinThem'));
+    button.addEventListener('click', () => choose({ name, folder: '', halves }));
+    return [make('p', {}, text('halves', { names: halves.map(it => it.name).join(', ') })), make('p', { className: 'buttons' }, button)];
+  }));
+}
+
 let labelAll = null;
 
 function showList() {
   byId('saveAll').textContent = text(...labelAll);
-  const whole = rides.filter(it => it.heading === 'whole').length, made = rides.filter(it => it.file && it.heading !== 'whole').length;
-  const counts = [['rescuedCount', made], ['wholeCount', whole], ['restCount', rides.length - whole - made]].filter(([, count]) => count);
-  byId('listHeading').textContent = text('listTitle', { all: rides.length, counts: counts.map(([key, count]) => [key, { count }]) });
-  byId('listNote').textContent = shownOthers ? text(shownOthers === 1 ? 'otherFile' : 'otherFiles', { count: shownOthers }) : '';
+  const of = isOne => rides.filter(isOne).length, whole = of(it => it.heading === 'whole'), other = of(it => it.heading === 'otherKind');
+  const made = of(it => it.file && !['whole', 'otherKind'].includes(it.heading)), all = rides.length - other, left = others + other;
+  const counts = [['rescuedCount', made], ['wholeCount', whole], ['restCount', all - whole - made]].filter(([, count]) => count);
+  byId('listHeading').textContent = text('listTitle', { all, counts: counts.map(([key, count]) => [key, { count }]) });
+  const notes = left ? [...shownNotes, [left === 1 ? 'otherFile' : 'otherFiles', { count: left }]] : shownNotes;
+  byId('listNote').textContent = notes.map(it => text(...it)).join(' ');
+  offerToJoin();
   byId('rides').replaceChildren(make('thead', {}, make('tr', {}, ...['file', 'start', 'duration', 'distance', 'state', 'action'].map(it =>
     make('th', { scope: 'col' }, text(it))))), make('tbody', {}, ...rides.map(rowOf)));
 }
@@ -153,12 +199,15 @@ function present(answer, how = [], isAgain = false) {
   const { reasons, details, next, offers, file, ride } = answer, sentence = ([key, values]) => text(key, values), facts = factsIn(answer);
   const clock = clockOf(answer, facts), isOff = clock && clock.isWrong && !answer.seconds, isWhole = answer.heading === 'whole';
   shownAnswer = { answer, how };
-  byId('heading').textContent = headingText(isOff && isWhole ? 'wholeOff' : answer.heading, wordsOf(ride));
+  const isWrong = isWhole && (isOff || ride && ride.back !== null);
+  byId('heading').textContent = headingText(isWrong ? 'wholeOff' : answer.heading, wordsOf(ride));
   const which = rides.length > 1 && current ? make('p', {}, make('strong', {}, current.folder + current.name)) : '';
   const untimed = ride && ride.isUntimed ? [['untimed']] : [];
-  const [lead, ...more] = told([...reasons.filter(([key]) => !isOff || key !== 'wholeWhy'), ...untimed], ride).map(sentence);
+  // Where its times are wrong, neither is it fine, nor do they tell when samples are missing.
+  const said = told([...reasons, ...untimed], ride).filter(([key]) => !isWrong || !['wholeWhy', 'noSamples'].includes(key));
+  const [lead, ...more] = said.map(sentence);
   byId('reason').replaceChildren(which, make('p', { className: 'lead' }, lead || ''), make('p', { className: 'more' }, more.join(' ')));
-  byId('next').replaceChildren(...next.map(it => make('p', {}, sentence(it))));
+  byId('next').replaceChildren(...[...next, ...current && current.said || []].map(it => make('p', {}, sentence(it))));
   byId('offers').replaceChildren(...offers.filter(it => it !== 'bare').map(it => offerOf(it, how)));
   byId('rarely').replaceChildren(...offers.filter(it => it === 'bare').map(it => offerOf(it, how)));
   byId('details').replaceChildren(...details.map(it => make('li', {}, sentence(it))));

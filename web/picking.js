@@ -124,10 +124,33 @@ async function frontOf(file) {
   return { blob: new Blob(parts), unread: at < file.size ? at : undefined };
 }
 
+// The rides whose files are those of one before, each with that one.
+/** @param {Files[]} rides @returns {Promise<Files[][]>} */
+export async function pairsIn(rides) {
+  const found = [];
+  for (const [i, ride] of rides.entries()) {
+    for (const other of rides.slice(0, i)) {
+      if (!await isSame(ride.data, other.data) || !await isSame(ride.journal, other.journal)) continue;
+      found.push([ride, other]);
+      break;
+    }
+  }
+  return found;
+}
+
+async function isSame(a, b) {
+  if (!a || !b || a.size !== b.size) return a === b;
+  const [own, other] = await Promise.all([a, b].map(it => keptOf(it).then(({ blob }) => blob.arrayBuffer(), () => new ArrayBuffer(0))));
+  const bytes = new Uint8Array(other);
+  return own.byteLength === a.size && new Uint8Array(own).every((n, i) => n === bytes[i]);
+}
+
 // What the worker is given of a ride.
 /** @param {Files} ride @returns {Promise<Given>} */
-export async function bytesOf({ data, journal, name, isPart }) {
+export async function bytesOf({ data, journal, like, likeName, name, isPart, halves }) {
+  if (halves) return { name, parts: await Promise.all(halves.map(async it => new Uint8Array(await (it.file || (await keptOf(it.data)).blob).arrayBuffer()))) };
   const read = async file => new Uint8Array(await (await keptOf(file)).blob.arrayBuffer());
-  const [bytes, other] = await Promise.all([data, journal].map(it => it && read(it)));
-  return { name, isPart, journalName: journal && journal.name, data: bytes, unread: data && kept.get(data).unread, journal: other };
+  const [bytes, other, lent] = await Promise.all([data, journal, like].map(it => it && read(it)));
+  const unread = data && kept.get(data).unread;
+  return { name, isPart, journalName: journal && journal.name, data: bytes, unread, journal: other, like: lent, likeName };
 }

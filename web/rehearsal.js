@@ -3,8 +3,8 @@
 import { bytesIn } from './inflating.js';
 
 // What a recorder writes before the first sample: header, file_id, sport and event with their definitions, and the definition of a sample.
-const OPENING = 'DhBkAAAAAAAuRklUIe5EAAAAAAUAAQABAoQCAoQDBIwEBIYEBP8AAQAHAAAAAHmQQUUAAAwAAgABAAEBAAUCAEYAABUAA/0EhgABAAEBAAYAeZBBAABAAAAU'
-  + 'AAkABIUBBIUDAQIEAQIFBIYGAoQHAoQNAQFOBIY';
+const OPENING = "         F<B7AM{KXY=(m<lQL#\teHH8%  +m2Z$((X4!#.?H6{?L&C  +m</LCm*qQF'Z<2q12Y\t @26_^&Kn!H   {.9Qb3u> @26_^&_uHD"
+  + "68V_qT+$+$5  UH#4C]CST!Bta576J]lX\tE_)h_KQQiL";
 const SAMPLES = 2000;
 
 // The two files of docs/JOURNAL-FORMAT.md, with a sample a second. Of their values only the distance has to be in order.

@@ -7,14 +7,16 @@ export const TIME = 253, SPORT = 12, SESSION = 18, LAP = 19, RECORD = 20, EVENT 
 // A sample with most of the fields has some more bytes. No distance leaps so far, in centimetres. A value counts for so many seconds at most.
 // The sport of a ride stands in so many bytes. Times in the short form begin anew after so many milliseconds.
 export const SAMPLE = 20, FAR = 1e7, LONGEST = 60, FRONT = 4096, ROUND = 32000, MINUTE = 60000;
+// A part of a few seconds is not named, and some samples are no fault.
+export const LITTLE = 10, SOME = 8;
 
 // A field of each series, and one that counts where the first is missing; and those that state its maximum and its average in a session. In
 // its unit a value is raw * scale + offset. No device measures what is below `from` or above `to`: a heart has a beat, and 0 is the altitude
-// of bytes that were never written. `least` is the smallest range of its picture.
+// of bytes that were never written. `least` is the smallest range of its picture. What leaps by more than `leap` from both neighbours is a fault.
 const SERIES = [
   { name: 'speed', fields: [73, 6], maximum: [125, 15], mean: [124, 14], scale: 0.0036, offset: 0, from: 0, to: 1300, least: 1 },
   { name: 'heart', fields: [3], maximum: [17], mean: [16], scale: 1, offset: 0, from: 1, to: 254, least: 5 },
-  { name: 'height', fields: [78, 2], maximum: [128, 50], mean: [126, 49], scale: 0.2, offset: -500, from: -499, to: 30000, least: 5 },
+  { name: 'height', fields: [78, 2], maximum: [128, 50], mean: [126, 49], scale: 0.2, offset: -500, from: -499, to: 30000, least: 5, leap: 100 },
   { name: 'power', fields: [7], maximum: [21], mean: [20], scale: 1, offset: 0, from: 0, to: 5000, least: 20 },
   { name: 'cadence', fields: [4], maximum: [19], mean: [18], scale: 1, offset: 0, from: 0, to: 254, least: 5 },
   { name: 'warmth', fields: [13], maximum: [58], mean: [57], scale: 1, offset: 0, from: -90, to: 100, least: 2 },
@@ -27,7 +29,7 @@ export async function tablesOf(fitrec, files, records) {
   const [data, journal] = await Promise.all(files.map(async it => new Uint8Array(it instanceof Blob ? await it.arrayBuffer() : it)));
   const samples = [RECORD, [TIME, ...POSITION, 5, ...SERIES], records || Math.ceil(data.length / SAMPLE)];
   const stated = ['maximum', 'mean'].flatMap(key => SERIES.map(it => ({ ...it, fields: it[key] })));
-  const ofSession = [2, 7, 8, 9, 5, 22, ...stated], asked = [samples, [EVENT, [TIME, 0, 1]], [LAP, [TIME, 2, 7, 8, 9], 1024]];
+  const ofSession = [2, 7, 8, 9, 5, 22, 26, 3, ...stated], asked = [samples, [EVENT, [TIME, 0, 1]], [LAP, [TIME, 2, 7, 8, 9], 1024]];
   const tables = await (journal ? fitrec.committed(data, journal, asked) : fitrec.tables(data, [...asked, [SESSION, ofSession]]));
   if (journal) tables.push(ofSession.map(() => new Float64Array(0)));
   return { tables, sport: tables[3][4].find(n => n > 0) ?? await sportOf(fitrec, data) };
@@ -46,9 +48,11 @@ async function sportOf(fitrec, data) {
 // The ride of its tables; a summary that is ours says nothing of the device. Times are seconds since 1989-12-31 00:00 UTC, positions are
 // degrees, distances centimetres. Samples none of which has a time are in their order, as if one came each second.
 /** @param {{ tables: Float64Array[][], sport?: number }} read @param {{ gaps: Gap[], isOurs?: boolean }} about @returns {Drawn} */
-export function rideOf({ tables: [records, events, found, [start, elapsed, timer, length, , climbed, ...stated]], sport }, { gaps, isOurs }) {
+export function rideOf({ tables: [records, events, found, session], sport }, { gaps, isOurs }) {
+  const [start, elapsed, timer, length, , climbed, lapCount, begun, ...stated] = session, isDevices = gaps.length > 0 && !isOurs;
   const isUntimed = records[0].length > 0 && records[0].every(n => n !== n);
   if (isUntimed) records[0].forEach((_, i) => { records[0][i] = i; });
+  const back = isUntimed ? null : backIn(records[0]);
   const [time, lat, long, distance, ...values] = inTime(records), pauses = isUntimed ? [] : pausesOf(...events);
   const resumed = pauses.map(([, to]) => sampleAt(time, to)), usual = plausible(distance, extremesOf(distance), FAR);
   leaveOut(distance, usual);
@@ -56,7 +60,7 @@ export function rideOf({ tables: [records, events, found, [start, elapsed, timer
   const clock = clockOf(time, pauses);
   const ends = new Uint8Array(time.length + 1), shared = { time, clock, ends, breaks, resumed, weights: weightsOf(clock, time) };
   const pace = gaps.length ? shared.weights.slice().sort()[time.length >> 1] : 0;
-  const missing = isUntimed ? [] : gaps.map(it => spanOf(it, records, pauses, pace));
+  const spans = isUntimed ? [] : gaps.map(it => spanOf(it, records, pauses, pace, isDevices ? start[0] : NaN));
   for (const i of columnsOf(time)) ends[i] = 1;
   for (const { first, last } of laps) ends[first] = ends[last] = 1;
   const means = stated.slice(SERIES.length), isOne = start.length === 1 && !isOurs;
@@ -64,25 +68,65 @@ export function rideOf({ tables: [records, events, found, [start, elapsed, timer
   const ride = { time, lat, long, distance, series, pauses, breaks: lat.includes(NaN) ? breaksOf(time, lat, resumed) : breaks };
   const sums = sumsOf({ start, ...(isOurs ? {} : { elapsed, timer, distance: length, ascent: climbed }) }), totals = totalsOf(ride, usual);
   if (isUntimed) Object.assign(totals.added, { start: null, elapsed: null, timer: null });
-  return { ...ride, laps: lapColumns(laps, series), ...totals, sums, sport, isUntimed, missing };
+  const missing = withPauses(spans, isDevices && start.length === 1 ? elapsed[0] - timer[0] : NaN, pauses, totals.added);
+  // What the device counted, and what no sample has.
+  const lost = { laps: 0, kinds: [] };
+  if (isDevices) lost.laps = Math.max(0, lapCount.reduce((sum, n) => sum + n, 0) - found[0].length) || 0;
+  if (isDevices && time.length) {
+    if (begun[0] === begun[0] && lat.every(n => n !== n)) lost.kinds.push('track');
+    for (const [k, { name }] of SERIES.entries()) {
+      if (!series.some(it => it.name === name) && (means[k][0] > 0 || stated[k][0] > 0)) lost.kinds.push(name);
+    }
+  }
+  const silent = back !== null || gaps.some(it => !it.isLast) ? [] : silentIn(time, clock, breaks, events);
+  return { ...ride, laps: lapColumns(laps, series), ...totals, sums, sport, isUntimed, missing, silent, lost, back };
 }
 
 // From when to when samples are missing between those that stand before a place and after it, and how far that is. A pause that is kept is
 // not missing. After a time in the short form all may be too early: then the bytes that are left out tell about how long it was, by
 // the usual seconds of a sample.
-/** @param {Gap} gap @param {Float64Array[]} records @param {number[][]} pauses @param {number} pace @returns {Missing | null} */
-function spanOf({ before, at, size, isLast, isShort }, [time, , , distance], pauses, pace) {
+// The ride may begin before its first sample, by what its session states.
+/**
+ * @param {Gap} gap @param {Float64Array[]} columns @param {number[][]} pauses @param {number} pace @param {number} start
+ * @returns {Missing | null}
+ */
+function spanOf({ before, samples, isLast, isShort, unread }, columns, pauses, pace, start) {
   if (before === undefined) return null;
+  const [time, , , distance] = columns, count = i => columns.filter(it => it[i] === it[i]).length, there = distance[before - 1];
+  // Of a sample that the hole touches only the time may be left.
+  const isTorn = before > 1 && (there !== there && distance[before - 2] >= 0 || count(before - 1) < 2 && count(before - 2) > 1);
+  const edge = before - (isTorn ? 2 : 1);
   const known = (values, first, step) => {
     for (let i = first; i >= 0 && i < values.length; i += step) if (values[i] === values[i]) return values[i];
     return null;
   };
-  let from = known(time, before - 1, -1), to = isLast ? null : known(time, before, 1);
-  const way = known(distance, before, 1) - known(distance, before - 1, -1), cm = way > 0 && way < FAR ? way : null;
+  let from = known(time, edge, -1), to = isLast ? null : known(time, before, 1);
+  const way = known(distance, before, 1) - known(distance, edge, -1), cm = way > 0 && way < FAR ? way : null;
   for (const [a, b] of pauses) if (from !== null && a >= from && b <= to) a - from > to - b ? to = a : from = b;
-  const ms = from === null || to === null ? null : 1000 * Math.max(0, to - from), about = 1000 * size * before / at * pace;
+  if (from === null && start <= to) from = start;
+  const ms = from === null || to === null ? null : 1000 * Math.max(0, to - from), about = 1000 * samples * pace;
+  if (from === null && about <= 1000 * LITTLE) return null;
   const isAbout = isShort && ms !== null && about > ms + ROUND / 2;
-  return { from, to, ms: isAbout ? Math.max(1, Math.round(about / MINUTE)) * MINUTE : ms, cm, isAbout };
+  return { from, to, ms: isAbout ? Math.max(1, Math.round(about / MINUTE)) * MINUTE : ms, cm, isAbout, about, unread };
+}
+
+// The same where pauses may be lost with the samples: the device counted so many milliseconds of pauses, or none is known. Then there was none
+// where the way is as long as on the whole ride.
+/** @param {(Missing | null)[]} spans @param {number} counted @param {number[][]} pauses @param {Partial<Summary>} whole */
+function withPauses(spans, counted, pauses, { distance, timer }) {
+  const hidden = counted - 1000 * pauses.reduce((sum, [from, to]) => sum + to - from, 0);
+  const isSlow = it => hidden === hidden || !(it.cm / it.ms > distance / timer / 2);
+  const long = hidden <= 1000 * LITTLE ? [] : spans.filter(it => it && !it.isAbout && it.ms > 2 * it.about + MINUTE && isSlow(it));
+  // The pause is where it is the only one that can have it, or where so much is missing beside the samples.
+  const own = long.length === 1 && hidden <= long[0].ms ? long[0] : long.find(it => Math.abs(it.ms - it.about - hidden) <= MINUTE / 2);
+  return spans.map(it => it === own && it ? { ...it, ms: it.ms - hidden } : !own && long.includes(it) ? { ...it, isPaused: true } : it);
+}
+
+// After which time the next ones go back and stay so, by some samples before and after that; null if they do not.
+function backIn(time) {
+  const i = time.findIndex((t, k) => k >= SOME && time[k - 1] - t > LITTLE && time[k + SOME] < time[k - 1] && time[k - SOME] < time[k - 1]
+    && time[k - 1] - time[k - SOME] < LONGEST * SOME);
+  return i < 0 ? null : time[i - 1];
 }
 
 // The columns in the order of their times, without samples whose time is missing or far from all others.
@@ -104,6 +148,8 @@ function inTime(columns) {
 // A series with its parts and what they amount to, without values that cannot be; null if it has no other. Its greatest value is at least the
 // maximum that a session states. The parts end where a column of the picture or a lap does, and where the line is interrupted.
 function seriesOf(values, kind, stated, mean, { time, clock, weights: usual, ends, breaks, resumed }) {
+  const { leap = Infinity } = kind, isFar = (i, k) => Math.abs(values[i] - values[k]) > leap;
+  for (let i = 1; i < values.length; i++) if (isFar(i, i - 1) && isFar(i, i + 1)) values[i] = Infinity;
   const { faults, count } = leaveOut(values, kind), isFull = count === time.length, own = isFull ? breaks : breaksOf(time, values, resumed);
   leaveOut(stated, kind);
   if (!count) return null;
@@ -253,6 +299,14 @@ function breaksOf(time, values, resumed) {
     last = i;
   }
   return found;
+}
+
+// From when to when, and for how many seconds, no sample came though the timer ran, for a minute and more: there a line is interrupted. A last
+// stop that no start follows is a pause too.
+function silentIn(time, clock, breaks, /** @type {Float64Array[]} */ [at, event, kind]) {
+  const stop = at[event.findLastIndex((n, k) => n === 0 && kind[k] > 0)];
+  return breaks.map(i => [time[i - 1], time[i], clock[i] - clock[i - 1]])
+    .filter(([from, to, seconds]) => seconds >= LONGEST && seconds === to - from && !(stop >= from && stop < to));
 }
 
 // What the samples add up to: for files without a summary, and what no summary has.

@@ -1,18 +1,20 @@
-// Begins the page: inflates its script, which the policy knows by its checksum, and gives it what its workers need.
+// Begins the page: inflates what it shows, its style and its script, which the policy knows by their checksums, and gives the script what its
+// workers need.
 
 import { inflated } from './inflating.js';
 
+const add = (to, name, attributes) => to.append(Object.assign(document.createElement(name), attributes));
+
 async function start() {
-  const { script, worker } = JSON.parse(new TextDecoder().decode(await inflated('@SCRIPTS@'))), made = document.createElement('script');
-  window.fitrec = { worker, module: '@MODULE@', isServed };
-  made.textContent = script;
-  document.body.append(made);
+  const { shown, style, script, worker } = JSON.parse(new TextDecoder().decode(await inflated('@INFLATED@')));
+  window.fitrec = { worker, module: inflated('@MODULE@'), isServed };
+  add(document.head, 'style', { textContent: style });
+  document.querySelector('main').innerHTML = shown;
+  add(document.body, 'script', { textContent: script });
 }
 
 // Where the page is served, it is an app.
 const isServed = location.protocol.startsWith('http');
-for (const [rel, href] of isServed ? [['manifest', 'manifest.webmanifest'], ['icon', 'icon.svg']] : []) {
-  document.head.append(Object.assign(document.createElement('link'), { rel, href }));
-}
+for (const [rel, href] of isServed ? [['manifest', 'manifest.webmanifest'], ['icon', 'icon.svg']] : []) add(document.head, 'link', { rel, href });
 
 start().catch(() => { document.querySelector('h1').textContent = 'This page needs a newer browser.'; });

@@ -1,6 +1,8 @@
 // What is said of a ride: what it is called, what is missing, and its numbers.
 
+import { isDated } from './dates.js';
 import { distanceText, durationText, numberText, startText, text, valueText } from './formats.js';
+import { LITTLE } from './ride.js';
 
 // What an activity is called, by its sport; and the texts that say whose it is.
 const SPORTS = { 1: 'run', 2: 'ride', 5: 'swim', 21: 'ride' };
@@ -48,25 +50,73 @@ export function numbersOf({ of, added, sums, ascent, laps }) {
   return numbers;
 }
 
-// A part of a few seconds is not named, and no activity stands still for a day, in milliseconds.
-const LITTLE = 10000, DAY = 86400000;
+// A device that lost its power goes on after so many seconds, and where nothing shows that it did, after so many.
+const CHARGED = 14400, AT_ONCE = 1800;
+
+// Which rides look like parts of one activity: one after another, of the same sport, as far as they state one. The distance of each begins
+// anew.
+/** @param {Files[]} rides @returns {Files[][]} */
+export function partsAmong(rides) {
+  const timed = rides.filter(({ facts, file, heading }) => facts.added.records && isDated(facts.added.start) && (file || heading === 'whole'));
+  timed.sort((a, b) => a.facts.added.start - b.facts.added.start);
+  /** @type {Files[][]} */
+  const rows = [];
+  for (const ride of timed) {
+    const row = rows[rows.length - 1];
+    if (row && goesOn(row[row.length - 1], ride)) row.push(ride);
+    else rows.push([ride]);
+  }
+  return rows.filter(it => it.length > 1);
+}
+
+/** @type {(before: Files, ride: Files) => boolean} */
+function goesOn({ facts: { added }, words, heading }, ride) {
+  if (ride.from > 0 && ride.from >= added.distance) return false;
+  const pause = ride.facts.added.start - Math.floor(added.start + added.elapsed / 1000);
+  const isSame = [words, 'activity'].includes(ride.words) || words === 'activity';
+  return isSame && pause >= 0 && pause <= (heading === 'whole' ? AT_ONCE : CHARGED);
+}
+
+// No activity stands still for a day, in milliseconds.
+const DAY = 86400000;
 
 // What a person wants to know first.
-const FIRST = ['notMoved', 'otherKindWhy', 'otherAfter', 'missingParts', 'timesEarly', 'littleMissing', 'littleInMore', 'onlyTotals', 'allThere',
-  'cutPair', 'readWhy'];
+const FIRST = ['notMoved', 'otherKindWhy', 'restWhy', 'olderAfter', 'timesBack', 'otherAfter', 'missingParts', 'timesEarly',
+  'littleMissing', 'littleInMore', 'onlyTotals', 'lostKinds', 'lostLap', 'lostLaps', 'allThere', 'cutPair', 'readWhy'];
 
 // What is said of an answer, with the times of its ride: a list of texts, each a key and its values.
 /** @param {Said[]} reasons @param {Drawn} [ride] @returns {Said[]} */
 export function told(reasons, ride) {
-  const last = ride && !ride.isUntimed && ride.time.length ? ride.time[ride.time.length - 1] : null;
+  const time = ride && ride.time[ride.time.length - 1], end = { time }, isKnown = ride && !ride.isUntimed && isDated(time);
   const hasTotals = ride && !ride.time.length && (ride.sums.sessions || ride.laps.count);
   const said = reasons.flatMap(([key, values = {}]) => {
-    if (values.end) return [last === null ? [key === 'cutPair' ? 'pairWhy' : key + 'Untimed', values] : [key, { ...values, end: { time: last } }]];
+    if ('end' in values) {
+      const isTold = values.end && isKnown;
+      return [[isTold || key !== 'cutPair' ? key : 'pairWhy', { ...values, end, goes: isTold ? [['goesTo', { end }]] : '' }]];
+    }
     if (values.gaps) return ride && ride.missing.length && !hasTotals ? missingOf(ride.missing) : [];
-    return hasTotals && ['noTotals', 'allThere', 'onlyTotals'].includes(key) ? [['onlyTotals']] : [[key, values]];
-  }).filter(([key], k, all) => key !== 'onlyTotals' || all.findIndex(it => it[0] === key) === k);
+    return hasTotals && ['noTotals', 'allThere'].includes(key) ? [] : [[key, values]];
+  });
+  if (hasTotals && !reasons.some(([key]) => key === 'otherKindWhy')) said.push(['onlyTotals']);
+  const { laps, kinds } = ride ? ride.lost : { laps: 0, kinds: [] };
+  if (kinds.length) said.push(['lostKinds', { kinds: kinds.map(it => [it]) }]);
+  if (ride && ride.back !== null) said.push(['timesBack', { time: { time: ride.back } }]);
+  if (laps) said.push(laps === 1 ? ['lostLap'] : ['lostLaps', { count: laps }]);
+  if (ride && ride.silent.length) said.push(['noSamples', { gaps: silenceOf(ride.silent) }]);
   const rank = ([key]) => (FIRST.indexOf(key) + 1 || FIRST.length + 1);
   return said.sort((a, b) => rank(a) - rank(b));
+}
+
+// So many of the places without samples are named, the longest ones.
+const NAMED = 3;
+
+function silenceOf(silent) {
+  const longest = [...silent].sort(([, , a], [, , b]) => b - a).slice(0, NAMED), more = silent.length - NAMED;
+  const gaps = silent.filter(it => longest.includes(it)).map(([from, to, seconds]) => {
+    const ms = 1000 * seconds, at = t => ms > DAY ? { day: t } : { time: t };
+    return ['gap', { from: at(from), to: at(to), length: { ms } }];
+  });
+  return more > 0 ? [...gaps, more === 1 ? ['leftOutOne'] : ['leftOutMore', { count: more }]] : gaps;
 }
 
 function missingOf(all) {
@@ -74,10 +124,12 @@ function missingOf(all) {
   if (other) return [['otherAfter', { from: { day: other.to } }], ...(missing.length ? missingOf(missing) : [])];
   if (missing.every(isLittle)) return [missing.length === 1 ? ['littleMissing'] : ['littleInMore', { count: missing.length }]];
   const named = missing.filter(it => !isLittle(it)), more = missing.length - named.length, at = t => ({ time: t });
-  const gaps = named.map(({ from, to, isAbout, ...length }) => {
+  const gaps = named.map(({ from, to, isAbout, isPaused, unread, ...length }) => {
     if (from === null) return ['gapBefore', { to: at(to) }];
+    if (isPaused) return ['gapPaused', { from: at(from), to: at(to) }];
     if (isAbout) return ['gapAbout', { from: at(from), length }];
-    return to === null ? ['gapAfter', { from: at(from) }] : ['gap', { from: at(from), to: at(to), length }];
+    if (to === null) return [unread ? 'gapUnread' : 'gapAfter', { from: at(from), part: Math.ceil(100 * unread) }];
+    return ['gap', { from: at(from), to: at(to), length }];
   });
   if (more) gaps.push(more === 1 ? ['gapsOne'] : ['gapsMore', { count: more }]);
   return [['missingParts', { gaps }], ...(named.some(it => it.isAbout) ? [['timesEarly']] : [])];
@@ -85,4 +137,4 @@ function missingOf(all) {
 
 // Those whose times were not looked up are smaller than the others.
 /** @type {(missing: Missing | null) => boolean} */
-export const isLittle = it => !it || it.ms !== null && it.ms <= LITTLE;
+export const isLittle = it => !it || it.ms !== null && it.ms <= 1000 * LITTLE;

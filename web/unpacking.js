@@ -8,12 +8,13 @@ import { headOf, kindOf } from './picking.js';
 const MOST_UNPACKED = 2 ** 29, DEEPEST = 3;
 
 // Files with their folders, without archives and images that have a FIT file or a journal in them. An archive that has none stays, and is
-// refused by its name, and so is what is too long to be one file. `isWanted` says whether they are still asked for.
-/** @param {Chosen[]} files @param {() => boolean} isWanted @returns {Promise<Chosen[]>} */
+// refused by its name, and so is what is too long to be one file. `isWanted` says whether they are still asked for. Beside them are the names
+// of ZIP files that were cut off.
+/** @param {Chosen[]} files @param {() => boolean} isWanted @returns {Promise<{ files: Chosen[], cut: string[] }>} */
 export async function unpacked(files, isWanted) {
-  const left = { room: MOST_UNPACKED, isWanted }, found = [];
+  const left = { room: MOST_UNPACKED, isWanted, cut: [] }, found = [];
   for (const it of files) found.push(...await contentOf(it, left, DEEPEST));
-  return found;
+  return { files: found, cut: left.cut };
 }
 
 async function contentOf({ file, folder }, left, depth) {
@@ -53,7 +54,9 @@ const ENTRY = 0x04034B50, AFTER = 0x08074B50, LISTED = 0x02014B50, END = 0x06054
 // The entries of a ZIP file whose names are those of rides or archives.
 async function entriesOf(file, left) {
   const viewOf = async (from, size) => new DataView(await file.slice(from, from + size).arrayBuffer()), found = [];
-  for (const { start, size } of await listedIn(file, viewOf) || entriesIn(await viewOf(0, file.size))) {
+  const listed = await listedIn(file, viewOf);
+  if (!listed) left.cut.push(file.name);
+  for (const { start, size } of listed || entriesIn(await viewOf(0, file.size))) {
     const entry = await viewOf(start, 30);
     if (entry.byteLength < 30) continue;
     const nameEnd = start + 30 + entry.getUint16(26, true), content = nameEnd + entry.getUint16(28, true);

@@ -3,18 +3,23 @@
 
 import { curveOf, trackOf } from './drawing.js';
 import { open } from './fitrec.mjs';
+import { beginningsIn, frontOf } from './fronts.js';
 import { rideOf, tablesOf } from './ride.js';
 import { answerTo } from './saving.js';
 
 let ready;
 const opened = new Promise(done => { ready = done; });
 
-onmessage = async ({ data: { module, number, card, goesOn, most, ride, how, files, records, gaps = [], isOurs } }) => {
+onmessage = async ({ data: { module, number, card, at, goesOn, most, front, ride, how, files, records, gaps = [], isOurs } }) => {
   if (module) return ready(open(module));
   const report = step => postMessage({ number, step });
   try {
     const fitrec = await opened;
-    if (card) return postMessage({ number, answer: await fitrec.find(new Uint8Array(card), goesOn, most) });
+    if (card) {
+      const bytes = new Uint8Array(card), found = await fitrec.find(bytes, goesOn, most);
+      return postMessage({ number, answer: { ...found, begun: beginningsIn(bytes, at) } });
+    }
+    if (front) return postMessage({ number, answer: await frontOf(fitrec, new Uint8Array(front)) });
     if (ride) {
       const answer = await answerTo(fitrec, ride, how), { parts = [] } = answer;
       for (const it of ['file', 'shown']) if (answer[it]) answer[it] = new Blob([answer[it]], { type: 'application/octet-stream' });

@@ -5,8 +5,12 @@ import { join } from 'node:path';
 
 const KEYS = { Tab: 9, Enter: 13, ' ': 32, ArrowLeft: 37, ArrowUp: 38, ArrowRight: 39, ArrowDown: 40, End: 35, Home: 36 };
 
+// A tab is never one in the background, which would wait for everything else on a busy machine.
+const WORDS = ['--headless=new', '--no-sandbox', '--disable-gpu', '--remote-debugging-pipe', '--disable-renderer-backgrounding',
+  '--disable-backgrounding-occluded-windows', '--disable-background-timer-throttling'];
+
 export async function start(folder) {
-  const words = ['--headless=new', '--no-sandbox', '--disable-gpu', '--remote-debugging-pipe', '--user-data-dir=' + join(folder, 'profile')];
+  const words = [...WORDS, '--user-data-dir=' + join(folder, 'profile')];
   const browser = spawn('chromium', [...words, 'about:blank'], { stdio: ['ignore', 'ignore', 'ignore', 'pipe', 'pipe'] });
   const waiting = new Map(), listeners = [];
   let received = '', sent = 0;
@@ -19,6 +23,10 @@ export async function start(folder) {
       else listeners.forEach(listener => listener(message));
     }
   });
+  const ended = new Promise(done => browser.on('close', done));
+  const gone = () => waiting.forEach(answer => answer({ error: { message: 'the browser is gone' } }));
+  browser.stdio[4].on('close', gone);
+  browser.stdio[3].on('error', gone);
   const send = (method, params = {}, sessionId) => new Promise((done, fail) => {
     waiting.set(++sent, message => message.error ? fail(new Error(method + ': ' + message.error.message)) : done(message.result));
     browser.stdio[3].write(JSON.stringify({ id: sent, method, params, sessionId }) + '\0');
@@ -35,7 +43,9 @@ export async function start(folder) {
     async end() {
       await send('Browser.close').catch(() => {});
       browser.kill();
+      await ended;
     },
+    kill() { browser.kill('SIGKILL'); },
   };
 }
 

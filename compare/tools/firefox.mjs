@@ -17,7 +17,7 @@ export async function start(folder) {
   const lines = Object.entries(SETTINGS).map(([name, value]) => `user_pref(${JSON.stringify(name)}, ${JSON.stringify(value)});\n`);
   writeFileSync(join(profile, 'user.js'), lines.join(''));
   const words = ['--headless', '--no-remote', '--marionette', '--remote-allow-system-access', '--profile', profile];
-  const browser = spawn('firefox-esr', words, { stdio: 'ignore' });
+  const browser = spawn('firefox-esr', words, { stdio: 'ignore' }), ended = new Promise(done => browser.on('close', done));
   process.on('exit', () => browser.kill());
   while (!existsSync(port) || !readFileSync(port, 'utf8')) await new Promise(done => setTimeout(done, 50));
   const { send, leave } = await connected(Number(readFileSync(port, 'utf8')));
@@ -36,7 +36,9 @@ export async function start(folder) {
     async end() {
       await send('Marionette:Quit', { flags: ['eForceQuit'] }).catch(() => {});
       leave();
+      await ended;
     },
+    kill() { browser.kill('SIGKILL'); },
   };
 }
 
@@ -54,7 +56,7 @@ async function connected(port) {
       if (Array.isArray(message)) waiting.get(message[1])(message);
     }
   });
-  socket.on('close', () => waiting.forEach(answer => answer([1, 0, { message: 'the browser is gone' }])));
+  socket.on('error', () => {}).on('close', () => waiting.forEach(answer => answer([1, 0, { message: 'the browser is gone' }])));
   const send = (name, params = {}) => new Promise((done, fail) => {
     waiting.set(++sent, ([, , error, result]) => error ? fail(new Error(name + ': ' + error.message)) : done(result));
     const text = JSON.stringify([0, sent, name, params]);

@@ -1,4 +1,4 @@
-"""The page in a browser: images of cards, and the whole FIT files that stand in them."""
+"""The page in a browser: images of cards, and the FIT files that stand in them."""
 
 import gzip
 import itertools
@@ -11,8 +11,8 @@ from tools.checks import differs, unless
 from tools.fit_files import image, short
 from tools.page_app import WATCH, most_still
 from tools.pages import RIDE, START, recorded, rows, tour
-from tools.program import bytes_of, run
-from tools.visits import FINE, NOTHING, WINDOWS
+from tools.program import NAMES, bytes_of, run
+from tools.visits import FINE, NOTHING, RESCUED, WINDOWS
 
 # The page reads an image in slices of so many bytes. What follows a slice begins where the mark of a header may begin in it.
 SLICE, BORDER = 2**22, 11
@@ -23,7 +23,8 @@ LONG, MOST_MS = 2**29 + 2**25, 30000
 
 
 def of_cards(fitrec, folder, browser):
-    """Images of cards: the page has the files that `split --all` writes, by their places, also across its slices, and none that are not whole."""
+    """Images of cards: the page has the files that `split --all` writes, by their places, also across its slices, and what can be read in one piece
+    of those that are not whole, where it begins with a block."""
     pick, rides = random.Random(3), []
     for name, lines in (("a", tour(600)), ("b", RIDE), ("c", tour(300, START + 3 * DAY))):
         run(fitrec, "save", recorded(fitrec, folder / name, lines), folder / (name + ".fit"))
@@ -54,33 +55,65 @@ def of_cards(fitrec, folder, browser):
     card, large = made("card.img", image(pick, parts)[0]), made("large.img", across())
     wanted, packed = split(card), made("packed.img.gz", gzip.compress(card.read_bytes(), 1))
     images = [("a card", card, wanted), ("a card under another name", made("sdb1", card.read_bytes()), wanted), ("more than a slice", large, split(large))]
-    take, show = {"download": "#saveAll"}, {"click": "#rides tbody tr:nth-child(2) button"}
+    take, show = {"download": "#saveAll"}, lambda row: {"click": "#rides tbody tr:nth-child(%d) button" % row}
 
-    def of_several(name, wanted):
+    # A file whose checksum is wrong has all its bytes.
+    (folder / "torn.fit").write_bytes(torn)
+    run(fitrec, "salvage", "--plain", folder / "torn.fit", folder / "kept.fit")
+    kept = (folder / "kept.fit").read_bytes()
+
+    def listed(file, wanted):
+        """What the page makes of each file that it finds in an image, in the order of their places."""
+        return dict(sorted((wanted | {"%d.fit" % file.read_bytes().index(torn): kept}).items(), key=lambda it: int(it[0][:-4])))
+
+    def of_several(name, wanted, all_of_it):
         def judge(shown, made):
-            yield "as many as were put there", differs(len(wanted), 3)
-            yield "the list", differs([(it[0], it[4]) for it in shown[0]["list"]], [("%s/%s" % (name, it), FINE) for it in wanted])
-            yield "how many there are", differs(shown[0]["listHeading"], "3 activities: 3 fine")
+            yield "as many as were put there", differs((len(wanted), len(all_of_it)), (3, 4))
+            states = [("%s/%s" % (name, it), FINE if it in wanted else RESCUED) for it in all_of_it]
+            yield "the list", differs([(it[0], it[4]) for it in shown[0]["list"]], states)
+            yield "how many there are", differs(shown[0]["listHeading"], "4 activities: 1 rescued and 3 fine")
+            note = "Files were taken from %s in one piece each." % name
+            yield "what else may be there", unless(shown[0]["listNote"].startswith(note), shown[0]["listNote"], note)
             with zipfile.ZipFile(made[1]) as them:
-                yield "their bytes", differs([them.read(it) for it in them.namelist()], [*wanted.values()])
+                yield "their bytes", differs([them.read(it) for it in them.namelist()], [*all_of_it.values()])
             last, second = shown[-1], [*wanted.values()][1]
             yield "one of them", differs((last["heading"], last["numbers"]["Samples"]), (FINE, f"{len(rows(second)):,}"))
             yield "why", unless("part of a larger file" in last["reason"], last["reason"], "part of a larger file")
             yield "its file", differs(bytes_of(pathlib.Path(made[-1])), second)
         return judge
 
-    steps = [take, show, {"download": "#save"}]
+    def steps(own, all_of_it):
+        """All are taken, and then the second one of those that are whole."""
+        return [take, show(1 + [*all_of_it].index([*own][1])), {"download": "#save"}]
+
     for (name, file, own), window in itertools.product(images, LOOKS):
-        browser.visit("%s, %s" % (name, window), [{"files": [file]}, *steps], of_several(file.name, own), **WINDOWS[window])
-    browser.visit("a deflated card", [{"files": [packed]}, *steps], of_several("packed.img", wanted))
-    browser.visit("a card that is dropped", [{"files": [card], "drop": True}, *steps], of_several(card.name, wanted))
+        them = listed(file, own)
+        browser.visit("%s, %s" % (name, window), [{"files": [file]}, *steps(own, them)], of_several(file.name, own, them), **WINDOWS[window])
+    them = listed(card, wanted)
+    browser.visit("a deflated card", [{"files": [packed]}, *steps(wanted, them)], of_several("packed.img", wanted, them))
+    browser.visit("a card that is dropped", [{"files": [card], "drop": True}, *steps(wanted, them)], of_several(card.name, wanted, them))
+
+    # The ride that a device was writing when it died.
+    died = folder / "c" / NAMES[0]
+    run(fitrec, "salvage", "--finish", "--plain", died, folder / "died.fit")
+    content, places = image(random.Random(5), [rides[1], died.read_bytes()])
+    after = made("died.img", content)
+
+    def of_the_last(shown, made):
+        names = [("died.img/%d.fit" % at, state) for at, state in zip(places, (FINE, "Your ride is rescued"))]
+        yield "the list", differs([(it[0], it[4]) for it in shown[0]["list"]], names)
+        with zipfile.ZipFile(made[1]) as them:
+            yield "their bytes", differs([them.read(it) for it in them.namelist()], [rides[1], bytes_of(folder / "died.fit")])
+        yield "why", unless("The device stopped" in shown[2]["reason"], shown[2]["reason"], "The device stopped")
+
+    browser.visit("a ride that the device was writing", [{"files": [after]}, take, show(2)], of_the_last)
 
     def of_lists(names):
         def judge(shown, made):
             yield "the list", differs([it[0] for it in shown[0]["list"]], names)
         return judge
 
-    beside = ["b.fit", *("card.img/" + it for it in wanted)]
+    beside = ["b.fit", *("card.img/" + it for it in them)]
     browser.visit("a card and a file", [{"files": [folder / "b.fit", card]}], of_lists(beside))
     # In a folder an image is one of the other files.
     (folder / "folder").mkdir()
@@ -95,6 +128,7 @@ def of_cards(fitrec, folder, browser):
             said = " ".join(last[it] for it in ("heading", "reason", "next"))
             yield "no word of a maker", differs(re.findall(r"(?i)byte|checksum|message|journal|image|header", said), [])
             yield "the file", differs(bytes_of(pathlib.Path(made[1])) if content else last["download"] or None, content)
+            yield "what else may be there", differs("in one piece each" in last["next"], bool(content))
         return judge
 
     alone, nothing = made("alone.img", image(pick, [torn[:90], rides[1]])[0]), image(pick, [header + pick.randbytes(5000)])[0]

@@ -9,9 +9,10 @@ import zipfile
 from tools.checks import differs, unless
 from tools.fit_files import framed
 from tools.page_forms import MAY_LEAVE
+from tools.page_holes import clock_of, length_of
 from tools.page_people import FAINT, FOCUSED, takes
-from tools.page_values import BEGIN, ELAPSED, ENUM, HEART, TIME, TIMER, UINT16, UINT32, message
-from tools.pages import START, both, recorded, tour
+from tools.page_values import BEGIN, ELAPSED, ENUM, HEART, LAT, LONG, TIME, TIMER, UINT16, UINT32, message
+from tools.pages import START, both, recorded, rows, tour
 from tools.program import bytes_of, run
 from tools.reader import EPOCH
 from tools.visits import DATED, FINE, MOSTLY, RESCUED, WIDTHS, WINDOWS
@@ -89,6 +90,7 @@ def of_clocks(fitrec, folder, browser):
             yield "the answer is drawn", differs((then["heading"], then["numbers"]["Start"], then["focus"]), (after, SHOWN, "result"))
             yield "it can be given again", differs(parts(made[4], "asked", "value", "back"), [QUESTION, MORNING, True])
             yield "it says so", unless("Every time in the file is moved" in then["reason"], then["reason"], "it says so")
+            yield "where no sample came, by right times", differs(["No samples" in it["reason"] for it in (first, then)], [heading != DATED, True])
             yield "no other number changes", differs(without_start(then["numbers"]), without_start(first["numbers"]))
             yield "no curve changes", differs(parts(then, "captions", "pictures"), parts(first, "captions", "pictures"))
             yield "the file is what the program makes", differs(bytes_of(pathlib.Path(made[6])), content)
@@ -121,6 +123,86 @@ def of_clocks(fitrec, folder, browser):
              {"keys": ["ArrowRight", "ArrowRight", "ArrowDown", "Enter"]}, {"click": "h1"}]
     for width, window in WIDTHS.items():
         browser.visit("keys at %s" % width, steps, of_keys, **window)
+    yield from browser.outcomes()
+
+
+WAY, YEARS = (5, UINT32), 730 * DAY
+
+
+def ridden(count, clock, has_way=True):
+    """A ride of so many samples, a second apart, whose device shows by a clock which time it is at each of them. It has two laps."""
+    way = lambda at: {WAY: 700 * at, LAT: 560000000 + 500 * at, LONG: 100000000 + 500 * at} if has_way else {}
+    sample = lambda at: message(20, {TIME: clock(at), HEART: 120 + at % 9} | way(at))
+    lap = lambda kind, first, last: message(kind, {TIME: clock(last), BEGIN: clock(first), ELAPSED: 1000 * (last - first), TIMER: 1000 * (last - first)})
+    body = [sample(at) + (lap(19, 0, 600) if at == 600 else b"") for at in range(count)]
+    return framed(message(0, {(0, ENUM): 4, (4, UINT32): clock(0)}) + b"".join(body) + lap(19, 600, count - 1) + lap(18, 0, count - 1)
+                  + message(34, {TIME: clock(count - 1), (1, UINT16): 1}))
+
+
+def of_set_clocks(fitrec, folder, browser):
+    """A clock that was wrong for a part of a ride, such as before the first position: the times of that part are moved to the others. A clock
+    that is set on the way is set right, if its times can be, whichever part is longer."""
+    at_2010, at_2005 = (int((it - EPOCH).total_seconds()) for it in (datetime.datetime(2010, 1, 1), datetime.datetime(2005, 3, 25)))
+    usual = lambda at: START + at
+    clocks = {"a first minute in 1989": (lambda at: 300 + at if at < 60 else usual(at), 0, 60),
+              "a first minute in 2010": (lambda at: at_2010 + at if at < 60 else usual(at), 0, 60),
+              "five seconds in 1989": (lambda at: 300 + at if at < 5 else usual(at), 0, 5),
+              "a first quarter of a minute two years ahead": (lambda at: usual(at) + YEARS * (at < 14), 0, 14),
+              "a last minute ahead of today": (lambda at: AHEAD + at if at >= 1140 else usual(at), 1140, 60),
+              "two thirds before it was set, two years ahead": (lambda at: usual(at) + YEARS * (at < 800), 0, 800),
+              "two thirds before it was set, minutes ahead": (lambda at: usual(at) + 300 * (at < 800), 0, 800),
+              "two thirds before it was set, ahead of today": (lambda at: AHEAD + at if at < 800 else usual(at), 0, 800),
+              "two last thirds ahead of today": (lambda at: AHEAD + at if at >= 400 else usual(at), 400, 800),
+              "two last thirds in 2005": (lambda at: at_2005 + at if at >= 400 else usual(at), 400, 800),
+              "a minute on the way": (lambda at: usual(at) + YEARS * (700 <= at < 760), 700, 60),
+              "a first third that goes back": (lambda at: usual(at) + 3600 * (at < 400), 0, 400),
+              "a first lap that goes back by minutes": (lambda at: usual(at) + 300 * (at < 500), 0, 500)}
+    rides = [(name, ridden(1200, clock), *of) for name, (clock, *of) in clocks.items()]
+    rides.append(("a first minute without a way", ridden(1200, clocks["a first minute in 1989"][0], False), 0, 60))
+
+    def judged(content, first, count, is_whole):
+        def judge(shown, made):
+            it, kept = shown[0], bytes_of(pathlib.Path(made[1]))
+            last = rows(kept)[-1]["timestamp"]
+            length = length_of(min(count, last - START + 1 - first))
+            says = "The clock of the device was wrong for %s from %s on. Those times are moved to fit the others." % (length, clock_of(START + first))
+            yield "its heading", differs(it["heading"], "The times of your activity are corrected" if is_whole else "Your activity is rescued")
+            yield "what is read first", unless(it["reason"].startswith(says), it["reason"], says)
+            yield "its numbers", differs(parts(it["numbers"], "Start", "Duration", "Samples"),
+                                         ["November 8, 2024 at 8:00 AM UTC", "0:%02d:%02d" % divmod(last - START, 60), "%s" % f"{last - START + 1:,}"])
+            yield "when it was made", differs(rows(kept, 0)[0].get("time_created"), START)
+            yield "its samples", differs(rows(kept), [own | {"timestamp": START + at} for at, own in enumerate(rows(content)[:last - START + 1])])
+            yield "its laps", differs([(lap["start_time"], lap["timestamp"]) for lap in rows(kept, 19)],
+                                      [(START, START + 600), (START + 600, last)])
+            yield "its start", differs([own["start_time"] for own in rows(kept, 18)], [START])
+            (folder / "kept.fit").write_bytes(kept)
+            yield "it is an activity", differs(run(fitrec, "check", folder / "kept.fit")[0], 0)
+            own, again = shown[2], shown[3]
+            yield "the way back", differs(("wrong for" in own["reason"], own["offers"][-1:]), (False, ["Go back"]))
+            yield "nothing is made of a whole file", unless(not is_whole or not own["download"], own["download"], "no file")
+            yield "once more", differs(parts(again, "heading", "reason", "numbers", "offers"), parts(it, "heading", "reason", "numbers", "offers"))
+        return judge
+
+    keep, again = {"click": "#offers button"}, {"click": "#offers button:last-child"}
+    for (name, content, *of), (width, window) in itertools.product(rides, WIDTHS.items()):
+        for kind, given in (("whole", content), ("cut off", content[:-100])):
+            file = folder / ("%s-%s.fit" % (name.replace(" ", "-"), kind.replace(" ", "-")))
+            file.write_bytes(given)
+            browser.visit("%s, %s, at %s" % (name, kind, width), [{"files": [file]}, SAVE, keep, again],
+                          judged(content, *of, kind == "whole"), **window)
+
+    # Times in the short form.
+    place = lambda at: (560000000 + 500 * at).to_bytes(4, "little") * 2
+    short = lambda first, begin, count: b"\1" + (begin + first).to_bytes(4, "little") + place(first) + b"".join(
+        bytes([0xC0 | (begin + at) % 32]) + place(at) for at in range(first + 1, first + count))
+    layouts = b"\x41\0\0\x14\0\3\xFD\4\x86\0\4\x85\1\4\x85" + b"\x42\0\0\x14\0\2\0\4\x85\1\4\x85"
+    content = framed(message(0, {(0, ENUM): 4, (4, UINT32): 300}) + layouts + short(0, 300, 60) + short(60, START, 600))
+    (folder / "short.fit").write_bytes(content)
+
+    def of_short(shown, made):
+        yield "its times", differs([it["timestamp"] for it in rows(bytes_of(pathlib.Path(made[1])))], [START + at for at in range(660)])
+
+    browser.visit("times in the short form", [{"files": [folder / "short.fit"]}, SAVE], of_short)
     yield from browser.outcomes()
 
 
@@ -173,7 +255,7 @@ def of_other_clocks(fitrec, folder, browser):
         if zone:
             browser.visit("in the fold at %s" % width, steps, of_fold, **zone, **window)
 
-    # What was cut off before it had totals gets them once its times are moved.
+    # What was cut off before it had totals gets them, also before its times are moved.
     (folder / "cut.fit").write_bytes(made["1989.fit"][:-9000])
     run(fitrec, "salvage", folder / "cut.fit", folder / "kept.fit")
     moved(fitrec, folder / "kept.fit", folder / "moved.fit", "--start", MORNING + ":00Z")
@@ -181,7 +263,8 @@ def of_other_clocks(fitrec, folder, browser):
     whole = bytes_of(folder / "whole.fit")
 
     def of_cut(shown, made):
-        yield "no totals", differs("cannot be added" in shown[0]["reason"], True)
+        first = shown[0]
+        yield "its totals at once", differs((first["heading"], "have been added" in first["reason"], first["where"] > ""), (MOSTLY, True, True))
         yield "its totals", differs((shown[2]["heading"], "have been added" in shown[2]["reason"]), (MOSTLY, True))
         yield "the file", differs(bytes_of(pathlib.Path(made[3])), whole)
 

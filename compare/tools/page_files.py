@@ -6,7 +6,9 @@ import shutil
 import zipfile
 
 from tools.checks import differs, unless
-from tools.pages import RIDE, both, copy, recorded, rounded, rows, tour
+from tools.fit_files import framed
+from tools.page_values import ENUM, UINT32, message
+from tools.pages import RIDE, START, both, copy, recorded, rounded, rows, tour
 from tools.program import NAMES, bytes_of, run
 from tools.rides import uncommitted
 from tools.visits import COMPLETED, FINE, MOSTLY, NOTHING, PARTLY, RESCUED, WINDOWS
@@ -46,7 +48,8 @@ def inputs(fitrec, folder):
            saved, the_end)
     yield ("a recording with a changed byte", both(changed), MOSTLY, "The end of the recording is damaged", "with %d bytes" % left_out, saved,
            instead)
-    bytes_there[100] ^= 1
+    # The layout of its samples is lost.
+    bytes_there[bytes_there.index(b"\x40\0\0\x14\0")] ^= 0x40
     all_over = [*made("activity.fit", bytes(bytes_there)), changed / NAMES[1]]
     yield "a recording changed all over", all_over, NOTHING, "Nothing in the file can be read", "another checksum", None, []
     yield "a tail that cannot be read", both(more), RESCUED, "could not be read to its end", "from byte %s on" % f"{end:,}", saved, [], end
@@ -65,12 +68,15 @@ def inputs(fitrec, folder):
     yield "an empty file", made("empty.fit", b""), NOTHING, "empty.fit is empty", "", None, []
     # A journal that counts more bytes than there are is of another ride, or the file was cut off.
     goes = "activity.fit goes to 1:51:39 AM: it was cut off, or activity.frj is of another activity."
-    yield "a longer journal", [ride, longer / NAMES[1]], MOSTLY, goes, "not those of one recording", finished, []
+    yield "a longer journal", [ride, longer / NAMES[1]], MOSTLY, goes, "counts more bytes than the data file has", finished, []
     short = recorded(fitrec, folder / "short", [RIDE[0], "sample 1000000001 hr=100", "commit"])
     yield "files of two rides", [ride, short / NAMES[1]], RESCUED, pair, "not those of one recording", finished, []
     (folder / "headless").mkdir()
+    (folder / "noisy").mkdir()
     headless = [ride, *made("headless/activity.frj", bytes(8) + journal.read_bytes()[8:])]
     yield "a journal whose head is damaged", headless, RESCUED, "activity.frj is damaged.", "no commit that counts", finished, []
+    noisy = [ride, *made("noisy/activity.frj", b"FRJD" + bytes(4) + bytes(range(7, 55)))]
+    yield "a journal whose slots are damaged", noisy, RESCUED, "activity.frj is damaged.", "no commit that counts", finished, []
     no_commit = [ride, *made("activity.frj", b"FRJD" + bytes(52))]
     yield "a journal of nothing", no_commit, RESCUED, begun, "no commit that counts", finished, []
     yield "a journal alone", [journal], "One more file is needed", "nothing of the recording itself", "", None, []
@@ -194,7 +200,10 @@ def of_choosing(fitrec, folder, browser):
     browser.visit("an empty ride with its journal", [{"files": [*made("activity.fit", b""), journal]}],
                   last(NOTHING, None, "activity.fit is empty."))
     browser.visit("an empty journal", [{"files": [ride, *made("activity.frj", b"")]}, {"download": "#save"}],
-                  last(RESCUED, alone, "had not confirmed anything"))
+                  last(RESCUED, alone, "activity.frj is empty.", "Copy both files"))
+    broken = made("broken.fit", whole[:3000])
+    browser.visit("a copy that was broken off", [{"files": broken}, {"download": "#save"}],
+                  last(PARTLY, by("broken-kept.fit", "salvage", "--finish", "--plain", *broken), "The file was cut off", "Copy it from the device"))
     nothing = recorded(fitrec, folder / "nothing", [RIDE[0], "commit"])
     browser.visit("a recording of nothing", [{"files": both(nothing)}], last("Nothing was recorded", None, "had not recorded anything"))
     yield from browser.outcomes()
@@ -237,4 +246,19 @@ def of_lists(fitrec, folder, browser):
         browser.visit("a journal for one of four, %s" % window,
                       [start, show(4), {"files": [torn / NAMES[1]]}, take, show(3), show(4)],
                       judged({name % "": finished, name % "-2": saved, name % "-3": saved}), **WINDOWS[window])
+
+    # What is no activity does not count as one, whether it is a FIT file or not.
+    others = shutil.copytree(rides, folder / "others")
+    (others / "settings.fit").write_bytes(framed(message(0, {(0, ENUM): 2, (4, UINT32): START})))
+
+    def of_others(text):
+        def judge(shown, made):
+            said = shown[0]["listHeading"], shown[0]["listNote"]
+            yield "what counts", differs(said, ("4 activities: 3 rescued and 1 fine", text))
+        return judge
+
+    browser.visit("settings beside them", [{"files": [others], "drop": True}], of_others("1 other file is no activity."))
+    more = shutil.copytree(others, folder / "more")
+    (more / "notes.txt").write_text("notes")
+    browser.visit("settings and notes beside them", [{"files": [more], "drop": True}], of_others("2 other files are no activities."))
     yield from browser.outcomes()

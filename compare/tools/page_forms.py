@@ -85,6 +85,27 @@ def of_archives(fitrec, folder, browser):
             browser.visit("%s, %s" % (name, window), [{"files": [file]}, *(take if content else [])], judged(heading, words, content),
                           **WIDTHS[window])
 
+    # What is said of a whole choice: with one ride below it, with several above the list.
+    def noted(*words):
+        def judge(shown, made):
+            last = shown[-1]
+            said = last["listNote"] if last["list"] else last["next"]
+            yield "what it says", unless(all(it in said for it in words) and bool(said) == bool(words), said, words)
+        return judge
+
+    ends = " was cut off: more may have been in it."
+    (folder / "again").mkdir()
+    again = folder / "again/ride.fit"
+    again.write_bytes(saved)
+    several = zipped("several.zip", {"1.fit": saved, "2.fit": front})
+    cut = made("cut.zip", several.read_bytes()[:-100])
+    for name, files, words in (
+            ("an archive that was cut off", [folder / "torn.zip"], ["torn.zip" + ends]), ("a whole archive", [folder / "both.zip"], []),
+            ("an archive of several that was cut off", [cut], ["cut.zip" + ends]), ("a whole archive of several", [several], []),
+            ("a file and the same once more", [folder / "ride.fit", zipped("one.zip", {"copy.fit": saved})], ["copy.fit is the same as ", "ride.fit"]),
+            ("three that are the same", [folder / "ride.fit", zipped("two.zip", {"1.fit": saved, "2.fit": saved})], ["2 files are copies of others."])):
+        browser.visit(name, [{"files": files}], noted(*words))
+
     # So much comes out of a small file that no browser has room for it.
     bomb = zlib.compressobj(9, zlib.DEFLATED, 31)
     parts = b"".join([bomb.compress(bytes(2**20)) for _ in range(600)] + [bomb.flush()])

@@ -8,12 +8,16 @@ import zipfile
 
 from tools.checks import differs, unless
 from tools.fit_files import framed
-from tools.page_values import ENUM, HEART, TIME, UINT32, message
-from tools.pages import RIDE, START, ascent_of, recorded, rows, series_of, tour
+from tools.page_people import takes
+from tools.page_values import (BEGIN, DISTANCE, ELAPSED, ENUM, HEART, LAT, LENGTH, LONG, MOST_HEART, TIME, TIMER, UINT16, UINT32, message)
+from tools.pages import RIDE, START, ascent_of, pauses_of, recorded, rows, series_of, tour
 from tools.program import NAMES, bytes_of, run
-from tools.visits import FINE, LAST_LAP, MOSTLY, NOTHING, PARTLY, RESCUED, WINDOWS
+from tools.visits import DATED, FINE, LAST_LAP, MOSTLY, NOTHING, PARTLY, RESCUED, TOTALS, WIDTHS, WINDOWS
 
 MAY_BE_WRONG = "Some values may be wrong."
+# How the page tells in each language where no samples are.
+SPOKEN = {"de": "Keine Messpunkte: %s bis %s, 8", "es": "Sin muestras: de %s a %s, 8", "fr": "Aucune mesure : de %s à %s, 8",
+          "it": "Nessun campione: dalle %s alle %s, 8"}
 
 
 def said_by(printed):
@@ -111,7 +115,8 @@ def of_holes(fitrec, folder, browser):
         kept, printed = by(two, "--skip")
         visit("a large hole and a small one", two, MOSTLY, ["; a little in %d more places." % (printed.count("left out") - 1)], said_by(printed), kept)
         kept, printed = by(large, "--skip")
-        gaps = ["%s to %s, %s (" % (clock_of(a), clock_of(b), length_of(b - a)) for a, b in missing_by(whole, kept)]
+        lost = lambda a, b: b - a - sum(to - since for since, to in pauses_of(whole) if a <= since and to <= b)
+        gaps = ["%s to %s, %s (" % (clock_of(a), clock_of(b), length_of(lost(a, b))) for a, b in missing_by(whole, kept)]
         visit("two large holes", large, MOSTLY, [*gaps, MAY_BE_WRONG], said_by(printed), kept)
         yield "two large holes: what is missing", differs(len(gaps), 2)
         kept, printed = by(bare, "--skip")
@@ -130,8 +135,9 @@ def of_holes(fitrec, folder, browser):
     empty = by(recorded(fitrec, folder / "empty", [RIDE[0], "commit"]) / NAMES[0])[0]
     browser.visit("no sample for a summary", [{"files": [made("unheard.fit", empty)]}],
                   judged("Nothing was recorded", ["had not recorded anything yet"], ["No record has a time that fits"], None))
-    browser.visit("no ride at all", [{"files": [made("picture.fit", b"\x89PNG\r\n\x1a\n" + bytes(range(256)) * 40)]}],
-                  judged(NOTHING, ["is not a FIT file", "what is lost of it is needed to read the rest"], [], None))
+    for name, content, says in (("picture", b"\x89PNG\r\n\x1a\n" + bytes(range(256)) * 40, ["is not a FIT file", "that the device itself wrote"]),
+                                ("noise", bytes(range(256)) * 40, ["does not begin as a FIT file", "it may tell how the rest is to be read"])):
+        browser.visit("no ride at all, " + name, [{"files": [made(name + ".fit", content)]}], judged(NOTHING, says, [], None))
     yield from browser.outcomes()
 
 
@@ -174,6 +180,22 @@ def of_no_messages(fitrec, folder, browser):
         printed = run(fitrec, "salvage", "--skip", *(["--finish"] if "recording" in name else []), "--plain", file, kept)[1]
         browser.visit("%s, %s" % (name, window), [{"files": [file]}, {"download": "#save"}], judged(size, kept.read_bytes(), printed),
                       **WINDOWS[window])
+
+    # A beginning that was erased is lost, and a file that is cut off in its beginning is no empty recording.
+    def begun(said, next_):
+        def judge(shown, made):
+            yield "its heading", differs(shown[0]["heading"], NOTHING)
+            yield "what it says", unless(said in shown[0]["reason"], shown[0]["reason"], said)
+            yield "what is next", unless(shown[0]["next"].startswith(next_), shown[0]["next"], next_)
+        return judge
+
+    cases = [("erased", 512 * b"\xFF" + recording[512:], "erased.fit does not begin as a FIT file", "Choose another activity")]
+    cases += [("cut-at-%d" % at, whole[:at], "cut-at-%d.fit was cut off at its very beginning" % at, "Copy it from the device once more.")
+              for at in (1, 10, 14, 100)]
+    for (name, content, *said), (width, window) in itertools.product(cases, WIDTHS.items()):
+        file = folder / (name + ".fit")
+        file.write_bytes(content)
+        browser.visit("a beginning that is %s, at %s" % (name, width), [{"files": [file]}], begun(*said), **window)
     yield from browser.outcomes()
 
 
@@ -254,7 +276,8 @@ def of_ends_and_pauses(fitrec, folder, browser):
     # Zeros and FF up to the full length, also where they complete a sample.
     for at, byte in itertools.product(range(9000, 9030, 5), (0, 255)):
         content = whole[:at] + bytes([byte]) * (len(whole) - at)
-        after = "Missing: what came after %s\\." % clock_of(kept(content)[-1]["timestamp"])
+        # A sample of which the time alone is left is lost too.
+        after = "Missing: what came after %s\\." % clock_of([it for it in kept(content) if "distance" in it][-1]["timestamp"])
         visit("%d at the end from %d on" % (byte, at), content, PARTLY, after, "The file is damaged.", absent="all of it could be read")
     hole_and_end = whole[:9000] + bytes(3000) + whole[12000:18000]
     end = "Missing: .*; what came after %s\\." % clock_of(kept(hole_and_end)[-1]["timestamp"])
@@ -280,7 +303,7 @@ def of_ends_and_pauses(fitrec, folder, browser):
 
     browser.visit("a whole file behind one that was cut off", [{"files": [both]}], of_both)
     # The definition of the samples is one of events.
-    visit("no samples", whole.replace(b"\0\0\x14\0", b"\0\0\x15\0"), RESCUED, "It has only totals", absent="all of it could be read")
+    visit("no samples", whole.replace(b"\0\0\x14\0", b"\0\0\x15\0"), TOTALS % "ride", "It has only totals", absent="all of it could be read")
     # What it lacks, and whose it is.
     lap = message(19, {TIME: START + 299, (2, UINT32): START, (7, UINT32): 299000, (8, UINT32): 299000})
     visit("laps and no totals", framed(front + lap), "Your activity is rescued", ".*The totals were missing\\.", absent="lap")
@@ -289,3 +312,361 @@ def of_ends_and_pauses(fitrec, folder, browser):
     visit("another maker's activity.fit", unfinished, "Your activity is rescued", "The device stopped", "If activity.frj is in", file="activity.fit")
     visit("our recording under another name", data, RESCUED, "The device stopped", "If activity.frj is in")
     yield from browser.outcomes()
+
+
+def of_silences(fitrec, folder, browser):
+    """Where no sample came though the timer ran is told, of a file in which nothing else is missing. A pause is none, nor is what is usual."""
+    begin = message(0, {(0, ENUM): 4, (4, UINT32): START})
+    sample = lambda at: message(20, {TIME: START + at, HEART: 120 + at % 9})
+    event = lambda at, kind: message(21, {TIME: START + at, (0, ENUM): 0, (1, ENUM): kind})
+    close = lambda at, kind: message(kind, {TIME: START + at, BEGIN: START, ELAPSED: 1000 * at, TIMER: 1000 * at})
+    of = lambda parts: begin + b"".join(it if isinstance(it, bytes) else b"".join(map(sample, it)) for it in parts)
+
+    def whole(*parts):
+        last = parts[-1][-1]
+        return framed(of(parts) + close(last, 19) + close(last, 18) + message(34, {TIME: START + last, (1, UINT16): 1}))
+
+    def says(*gaps, more=""):
+        """What is said of gaps, each from one second of the ride to another."""
+        named = ["%s to %s, %s" % (clock_of(START + a), clock_of(START + b), length_of(b - a)) for a, b in gaps]
+        return "No samples: %s. The device wrote none there." % "; ".join([*named, *[more] * bool(more)])
+
+    smart = lambda begin, end: range(begin, end, 7)
+    places = [(299, 390), (699, 830), (1099, 1180), (1599, 1730)]
+    several = lambda count: [range(a, b + 1) for a, b in zip([0, *(to for _, to in places[:count])], [*(since for since, _ in places[:count]), 2200])]
+    cases = {
+        "eight minutes": (whole(range(600), range(1080, 1800)), says((599, 1080))),
+        "a minute": (whole(range(600), range(659, 1800)), says((599, 659))),
+        "less than a minute": (whole(range(600), range(658, 1800)), None),
+        "a minute of a sample each seven seconds": (whole(smart(0, 602), smart(665, 1800)), None),
+        "two minutes of a sample each seven seconds": (whole(smart(0, 602), smart(728, 1800)), says((595, 728))),
+        "a pause": (whole(range(600), event(599, 4), event(1080, 0), range(1080, 1800)), None),
+        "a pause that no start ends": (whole(range(600), event(599, 4), range(1080, 1800)), None),
+        "a pause, and some minutes": (whole(range(600), event(599, 4), event(700, 0), range(700, 900), range(1080, 1800)), says((899, 1080))),
+        "three places": (whole(*several(3)), says(*places[:3])),
+        "four places": (whole(*several(4)), says(places[0], places[1], places[3], more="one more place")),
+        "cut off": (framed(of([range(600), range(1080, 1800)]))[:-100], says((599, 1080))),
+        "a hole": (framed(of([range(600), bytes([15]) * 2000, range(1080, 1800)])), None)}
+
+    def judged(said):
+        def judge(shown, made):
+            reason = shown[0]["reason"]
+            yield "what it says", unless(said is None or said in reason, reason, said)
+            yield "nothing else of it", differs(reason.count("No samples"), int(said is not None))
+        return judge
+
+    for (name, (content, said)), (width, window) in itertools.product(cases.items(), WIDTHS.items()):
+        file = folder / (name.replace(" ", "-").replace(",", "") + ".fit")
+        file.write_bytes(content)
+        browser.visit("%s, at %s" % (name, width), [{"files": [file]}], judged(said), **window)
+    # By days, where it is more than one.
+    file = folder / "days.fit"
+    file.write_bytes(whole(range(600), range(2 * 86400, 2 * 86400 + 600)))
+    days = "No samples: November 8, 2024 at 8:09 AM UTC to November 10, 2024 at 8:00 AM UTC, 47 hr 50 min. The device wrote none there."
+    for width, window in WIDTHS.items():
+        browser.visit("two days, at %s" % width, [{"files": [file]}], judged(days), **window)
+    # In each language.
+    of_language = lambda says: lambda shown, made: [("what it says", unless(says in made[2], made[2], says))]
+    said = {"evaluate": "document.getElementById('reason').innerText"}
+    for (language, spoken), (width, window) in itertools.product(SPOKEN.items(), WIDTHS.items()):
+        browser.visit("%s, at %s" % (language, width), [{"files": [folder / "eight-minutes.fit"]}, takes("language", language), said,
+                                                        takes("language", "en")],
+                      of_language(spoken % ("08:09:59", "08:18:00")), **window)
+    # A recording of both files: a pause, and four minutes without a sample.
+    torn = recorded(fitrec, folder / "torn", tour(900))
+    run(fitrec, "save", torn, folder / "torn.fit")
+    times, pauses = [it["timestamp"] for it in rows(bytes_of(folder / "torn.fit"))], pauses_of(bytes_of(folder / "torn.fit"))
+    gaps = [(a - START, b - START) for a, b in itertools.pairwise(times) if b - a >= 60 and not any(a < to and b > since for since, to in pauses)]
+    yield "the places of a recording", differs(len(gaps), 1)
+    for width, window in WIDTHS.items():
+        browser.visit("a recording, at %s" % width, [{"files": [torn / it for it in NAMES]}], judged(says(*gaps)), **window)
+    yield from browser.outcomes()
+
+
+def of_unread_ends(fitrec, folder, browser):
+    """Where a layout that changes on the way is lost, the ride does not end there: how much of the file follows and cannot be read is told."""
+    begin, number = message(0, {(0, ENUM): 4, (4, UINT32): START}), lambda n: n.to_bytes(4, "little")
+    layout = lambda *fields: b"\x40\0\0\x14\0" + bytes([len(fields)]) + b"".join(map(bytes, fields))
+    time, heart, way, watts = (253, 4, 0x86), (3, 1, 2), (5, 4, 0x86), (7, 2, 0x84)
+    first = lambda at: b"\0" + number(START + at) + bytes([120 + at % 9]) + number(700 * at)
+    then = lambda at: b"\0" + number(560000000 + 500 * at) + number(100000000 + 500 * at) + (150 + at % 100).to_bytes(2, "little") + first(at)[1:]
+    change = layout((0, 4, 0x85), (1, 4, 0x85), watts, time, heart, way)
+    closing = lambda kind: message(kind, {TIME: START + 3600, BEGIN: START, ELAPSED: 3_600_000, TIMER: 3_600_000, LENGTH: 700 * 3600})
+    end = closing(19) + closing(18) + message(34, {TIME: START + 3600, (1, UINT16): 1})
+    opened = lambda records: bytes([14, 0x10, 100, 0, 0, 0, 0, 0]) + b".FIT\0\0" + records
+    stopped, was_damaged = "The device stopped before it could close the recording.", "The file is damaged."
+
+    def visit(name, files, lead, *more, absent="It goes to"):
+        here = folder / re.sub(r"\W+", "-", name)
+        here.mkdir()
+        for file, content in files.items():
+            (here / file).write_bytes(content)
+
+        def judge(shown, made):
+            said = shown[0]["reason"] + " " + shown[0]["next"]
+            yield "what is read first", unless(said.startswith(lead), said, lead)
+            yield "what else is said", differs([own for own in more if own not in said], [])
+            yield "what is not said", unless(absent not in said, said, "not " + absent)
+
+        for width, window in WIDTHS.items():
+            browser.visit("%s, at %s" % (name, width), [{"files": [here / it for it in files]}], judge, **window)
+
+    for name, count in (("half", 1800), ("late", 3000)):
+        front = begin + layout(time, heart, way) + b"".join(map(first, range(count)))
+        rest = b"".join(map(then, range(count, 3600)))
+        lost = lambda file, left: "Missing: what follows after %s and cannot be read (%d%% of the file)." % (
+            clock_of(START + count - 1), -(-100 * left // len(file)))
+        hole, at = bytes([15]) * len(change), 14 + len(front)
+        whole = framed(front + change + rest + end)
+        damaged, left = whole[:at] + hole + whole[at + len(hole):], len(hole + rest)
+        visit(name, {"ride.fit": damaged}, lost(damaged, left), was_damaged)
+        visit(name + ", cut off", {"ride.fit": damaged[:-9000]}, lost(damaged[:-9000], left + len(end) + 2 - 9000), was_damaged)
+        gone = whole[:at] + whole[at + len(hole):]
+        visit(name + ", gone", {"ride.fit": gone}, lost(gone, len(rest)), was_damaged)
+        recording = opened(front + hole + rest)
+        visit(name + ", not closed", {"ride.fit": recording}, lost(recording, left), stopped)
+        visit(name + ", with a journal of zeros", {"activity.fit": recording, "activity.frj": bytes(64)}, lost(recording, left),
+              "activity.frj is damaged.")
+        # Room that was never written is no part of the ride.
+        roomy = recording + bytes(30000)
+        visit(name + ", not closed, with room", {"ride.fit": roomy}, lost(roomy, left), stopped)
+        visit(name + ", with room", {"ride.fit": opened(front + first(count)[:6] + bytes(len(rest)))},
+              stopped + " It goes to %s." % clock_of(START + count - 1), absent="cannot be read")
+    # Nor is room that was erased, which the length may be too.
+    erased = opened(begin + layout(time, heart, way) + b"".join(map(first, range(900))))
+    visit("erased room", {"ride.fit": erased[:4] + b"\xFF" * 4 + erased[8:] + b"\xFF" * 4096}, stopped + " It goes to %s." % clock_of(START + 899),
+          absent="Missing")
+    yield from browser.outcomes()
+
+
+def of_what_is_lost(fitrec, folder, browser):
+    """What comes after a clock that went back, a beginning that another file tells how to read, totals alone, and laps, values and pauses in a
+    hole."""
+    begin = message(0, {(0, ENUM): 4, (4, UINT32): START})
+    layout = b"\x40\0\0\x14\0\3" + bytes([253, 4, 0x86, 3, 1, 2, 5, 4, 0x86])
+    number = lambda n: n.to_bytes(4, "little")
+
+    def samples(*of, back=0):
+        return layout + b"".join(b"\0" + number(START + at - back) + bytes([120 + at % 9]) + number(700 * at) for at in range(*of))
+
+    def lap(number, first, last, kind=19, **more):
+        own = {(254, UINT16): number, TIME: START + last, BEGIN: START + first, ELAPSED: 1000 * (last - first), LENGTH: 700 * (last - first)}
+        return message(kind, own | {TIMER: 1000 * (last - first - more.pop("paused", 0))} | more.pop("fields", {}))
+
+    ending = lambda end, **more: lap(0, 0, end, 18, **more) + message(34, {TIME: START + end, (1, UINT16): 1})
+    wrong = lambda content: content[:-1] + bytes([content[-1] ^ 0x55])
+    opened = lambda records: bytes([14, 0x10, 100, 0, 0, 0, 0, 0]) + b".FIT\0\0" + records
+
+    def visit(name, files, steps, *wanted):
+        """Files by their names, and for each answer its heading, the beginning of what is read first, what else is said, and samples."""
+        here = folder / re.sub(r"\W+", "-", name)
+        here.mkdir()
+        for file, content in files.items():
+            (here / file).write_bytes(content)
+
+        def judge(shown, made):
+            for it, (heading, lead, more, absent, count) in zip([it for it in shown if it], wanted, strict=True):
+                said = it["reason"] + " " + it["next"]
+                yield "its heading", differs(it["heading"], heading)
+                yield "what is read first", unless(said.startswith(lead), said, lead)
+                yield "what else is said", differs([own for own in more if own not in said], [])
+                yield "what is not said", differs([own for own in absent if own in said], [])
+                if count is not ...:
+                    yield "its samples", differs(it["numbers"].get("Samples"), None if count is None else f"{count:,}")
+
+        browser.visit(name, [{"files": [here / it for it in step]} if isinstance(step, tuple) else {"click": step} for step in steps], judge)
+
+    # The clock goes back by an hour, three days and seven minutes, and the distance goes on: it was set there.
+    one, whole, mostly, partly = ("ride.fit",), *(it % "activity is rescued" for it in ("Your %s", "Most of your %s", "Part of your %s"))
+    left_of = lambda content: len(rows(_skipped(fitrec, folder, content)))
+    says_of = lambda back: ("The clock of the device was wrong for 16 min 40 sec from %s on. Those times are moved to fit the others."
+                            % clock_of(START - back))
+    for name, back in (("an hour", 3600), ("three days", 3 * 86400), ("minutes", 400)):
+        part, says = begin + samples(1000) + samples(1000, 1800, back=back), says_of(back)
+        for kind, content, lead in (("a wrong checksum", wrong(framed(part + lap(0, 0, 1800) + ending(1800))), "The file is damaged, but all of it"),
+                                    ("no end", framed(part)[:-2], says),
+                                    ("not closed", opened(part), "The device stopped before it could close the recording.")):
+            visit("a clock that goes back by %s, %s" % (name, kind), {"ride.fit": content}, [one], (whole, lead, [says], ["left out"], 1800))
+    both_times = bytearray(opened(begin + samples(1000) + samples(1000, 1800, back=400)))
+    both_times[2000:2030] = bytes([15]) * 30
+    visit("a clock that goes back, and a small hole", {"ride.fit": both_times}, [one], (whole, "A few seconds", ["to fit the others"], [], ...))
+    says = says_of(3600)
+    finished = lambda more: framed(begin + samples(1000) + more + lap(0, 0, 1800) + ending(1800))
+    visit("a whole file whose times go back", {"ride.fit": finished(samples(1000, 1800, back=3600))}, [one],
+          ("The times of your activity are corrected", says, [], ["It is complete and undamaged"], 1800))
+    visit("a whole file of two rides", {"ride.fit": finished(samples(5000, 5800, back=90000))}, [one],
+          (DATED, "After %s its times go back" % clock_of(START + 999), [], ["nothing needs"], 1800))
+    # A pause of two days is none of a clock.
+    visit("a long pause", {"ride.fit": finished(samples(1000, 1800, back=-2 * 86400))}, [one], (FINE, "It is complete", [], ["clock"], 1800))
+    older = begin + samples(1000) + samples(5000, 5800, back=90000)
+    says = "What follows after %s has earlier times, and is left out" % clock_of(START + 999)
+    visit("older samples after the end", {"ride.fit": opened(older)}, [one, "#offers button", "#offers button"],
+          (mostly, says, [], ["wrong for"], 1000), (partly, "This is the part that was left out.", ["Its distance is that of the part"], [], 800),
+          (mostly, says, [], [], 1000))
+
+    def of_part(shown, made):
+        yield "its distance", differs([it["numbers"]["Distance"] for it in shown], ["6.99 km", "5.59 km"])
+        yield "in its file", differs([it["distance"] for it in rows(bytes_of(pathlib.Path(made[2])))], [700 * at for at in range(800)])
+
+    steps = [{"files": [folder / "older-samples-after-the-end/ride.fit"]}, {"click": "#offers button"}]
+    browser.visit("the distance of a part", [*steps, {"download": "#save"}], lambda shown, made: of_part(shown[:2], made))
+
+    # A beginning that is lost, with another file of the device, of another one, and in one choice.
+    files = {}
+    for name, lines in (("whole.fit", tour(900)), ("like.fit", tour(600, START + 40 * 86400, 8.9))):
+        run(fitrec, "save", recorded(fitrec, folder / name.replace(".", "-"), lines), folder / name)
+        files[name] = (folder / name).read_bytes()
+    front = files["whole.fit"][4096:]
+    (folder / "front.fit").write_bytes(front)
+    run(fitrec, "salvage", "--skip", "--like", folder / "like.fit", "--finish", "--plain", folder / "front.fit", folder / "kept.fit")
+    left = rows((folder / "kept.fit").read_bytes())
+    (folder / "middle.fit").write_bytes(front[:-4000])
+    run(fitrec, "salvage", "--skip", "--like", folder / "like.fit", folder / "middle.fit", folder / "middle-kept.fit")
+    first = "Missing: %s to %s, %s (" % (clock_of(START), clock_of(left[0]["timestamp"]), length_of(left[0]["timestamp"] - START))
+    asks = "Choose another activity of the same device too"
+    lost = TOTALS % "ride", "It has only totals", [asks, "2 laps are missing."], ["all of it could be read"], 0
+    read = MOSTLY, first, ["It could be read with the help of like.fit."], [asks], len(left)
+    other = framed(begin + samples(300) + lap(0, 0, 300) + ending(300))
+    visit("no beginning, and another file", {"ride.fit": front, "like.fit": files["like.fit"]}, [one, ("like.fit",)], lost, read)
+    visit("no beginning, and a file that does not help", {"ride.fit": front, "other.fit": other}, [one, ("other.fit",)], lost,
+          (FINE, "It is complete", ["other.fit did not help to read ride.fit."], [], 300))
+    card = {"activity.fit": bytes(4096) + (folder / "like-fit" / NAMES[0]).read_bytes()[4096:], "other.fit": (folder / "whole-fit" / NAMES[0]).read_bytes(),
+            "activity.frj": (folder / "like-fit" / NAMES[1]).read_bytes()}
+    visit("no beginning, with its journal", card, [("activity.fit", "activity.frj"), ("other.fit",)],
+          (NOTHING, "activity.fit does not begin as a FIT file", [asks], [], None), (mostly, "Missing: ", ["with the help of other.fit"], [], ...))
+    visit("neither beginning nor end", {"ride.fit": front[:-4000], "like.fit": files["like.fit"]}, [one, ("like.fit",)],
+          (NOTHING, "ride.fit does not begin as a FIT file, and nothing in it can be read.", [asks], [], None),
+          (mostly, "Missing: what came before", ["with the help of like.fit"], [], len(rows((folder / "middle-kept.fit").read_bytes()))))
+
+    def of_list(shown, made):
+        yield "its rides", differs([(it[0], it[4]) for it in shown[0]["list"]], [("front.fit", MOSTLY), ("like.fit", FINE)])
+
+    browser.visit("no beginning, among others", [{"files": [folder / "front.fit", folder / "like.fit"]}], of_list)
+    # The other file has the same layouts under other local numbers, and laps and totals are there without any.
+    under = lambda local, number, fields: bytes([0x40 | local, 0, 0, number, 0, len(fields)]) + b"".join(bytes([field, 4, 0x86]) for field in fields)
+
+    def numbered(record, event, first, count):
+        row = lambda at: bytes([record]) + number(first + at) + number(700 * at)
+        stop = bytes([event]) + number(first + count // 2) + number(0) + number(4)
+        rest = [row(at) for at in range(count)]
+        body = begin + under(record, 20, [253, 5]) + under(event, 21, [253, 3, 2]) + b"".join([*rest[:count // 2], stop, *rest[count // 2:]])
+        return body + message(19, {(254, UINT16): 0, TIME: first + count, BEGIN: first, ELAPSED: 1000 * count, LENGTH: 700 * count}) \
+            + message(18, {TIME: first + count, BEGIN: first, ELAPSED: 1000 * count, LENGTH: 700 * count}) + message(34, {TIME: first + count})
+
+    torn, like = framed(numbered(3, 4, START, 1800))[300:], framed(numbered(6, 3, START - 86400, 900))
+    visit("no beginning, and other local numbers", {"ride.fit": torn, "like.fit": like}, [one, ("like.fit",)],
+          (TOTALS % "activity", "It has only totals", [asks], [], 0), (mostly, "Missing: ", ["with the help of like.fit"], [asks], 1771))
+    # Totals behind a hole that is larger than what is searched for more.
+    hidden = wrong(framed(begin + samples(20) + bytes(70000) + lap(0, 0, 1800) + ending(1800)))
+    visit("totals behind a large hole", {"ride.fit": hidden}, [one],
+          (partly, "Missing: what came after %s" % clock_of(START + 19), ["The file is damaged."], ["have been added"], 20))
+    # The layout of the samples is damaged: laps and totals are there.
+    content = framed(begin + samples(1800) + lap(0, 0, 900) + lap(1, 900, 1800) + ending(1800))
+    for name, at, byte in (("its size", 7, 9), ("its fields", 5, 9), ("its kind", 3, 21)):
+        damaged = bytearray(content)
+        damaged[content.index(layout) + at] = byte
+        totals = TOTALS % "activity", "It has only totals", [], [], 0
+        visit("a layout that is damaged in %s" % name, {"ride.fit": damaged}, [one], totals)
+        if at != 3:
+            visit("another file with a layout that is damaged in %s" % name, {"ride.fit": damaged, "other.fit": other}, [one, ("other.fit",)],
+                  totals, (whole, "A few seconds of it are missing at most.", ["with the help of other.fit"], [asks], 1800))
+
+    # Laps, and positions, that a hole takes, by what the session counted.
+    laps = [lap(k, 300 * k, 300 * k + 300) for k in range(6)]
+    body = begin + b"".join(samples(300 * k, 300 * k + 300) + it for k, it in enumerate(laps))
+    counted = framed(body + ending(1800, fields={(26, UINT16): 6, MOST_HEART: 128}))
+    for many, said in ((1, "One lap is missing."), (3, "3 laps are missing.")):
+        start, end = counted.index(laps[1]) - 40, counted.index(laps[many]) + 40
+        hole = counted[:start] + bytes([15]) * (end - start) + counted[end:]
+        visit("a hole with %d laps" % many, {"ride.fit": hole}, [one], (mostly if many > 1 else whole, "", [said], ["Nothing is left"], left_of(hole)))
+    places = b"".join(message(20, {TIME: START + at, LAT: 500000000 + 50 * at, LONG: 100000000 + 50 * at}) for at in range(0, 60, 2))
+    content = framed(begin + samples(200) + places + samples(200, 1800) + lap(0, 0, 1800) + ending(1800, fields={(3, LAT[1]): 500000000, MOST_HEART: 128}))
+    at = content.index(places)
+    hole = content[:at] + bytes([15]) * len(places) + content[at + len(places):]
+    visit("a hole with all positions", {"ride.fit": hole}, [one],
+          (whole, "A few seconds of it are missing at most.", ["Nothing is left of: Track."], ["Heart"], left_of(hole)))
+    # A pause of ten minutes in a hole, which the session counts, or nothing does. And a sample of which a hole leaves the time alone.
+    closing = lap(0, 0, 3000, paused=600) + ending(3000, paused=600)
+    for name, end, says in (("that was counted", closing, "3 min 22 sec (1.41 km)."), ("that nothing counts", b"", "perhaps with a pause")):
+        content = framed(begin + samples(800) + samples(800, 2400, back=-600) + end)
+        start, end = content.index(number(START + 700)) - 1, content.index(number(START + 1501)) - 1
+        hole = content[:start] + bytes([15]) * (end - start) + content[end:]
+        lead = "Missing: %s to %s, %s" % (clock_of(START + 699), clock_of(START + 1501), says)
+        visit("a pause in a hole %s" % name, {"ride.fit": hole}, [one], (mostly, lead, [], [], left_of(hole)))
+    # Bytes that are gone altogether tell nothing, but the way does.
+    content = framed(begin + samples(1800))
+    start, end = content.index(number(START + 700)) + 20, content.index(number(START + 900)) + 6
+    gone = content[:start] + content[end:]
+    lead = "Missing: %s to %s, 3 min 20 sec (1.40 km)" % (clock_of(START + 701), clock_of(START + 901))
+    visit("a part that is gone", {"ride.fit": gone}, [one], (mostly, lead, [], ["perhaps"], left_of(gone)))
+    content = framed(begin + samples(1800) + ending(1800))
+    at = content.index(number(START + 500)) + 4
+    torn = content[:at] + b"\xFF" * 200 + content[at + 200:]
+    lead = "Missing: %s to %s, 22 sec" % (clock_of(START + 499), clock_of(START + 521))
+    visit("a sample whose time alone is left", {"ride.fit": torn}, [one], (mostly, lead, [], [], left_of(torn)))
+    yield from browser.outcomes()
+
+
+def of_leaps(fitrec, folder, browser):
+    """Values that leap are no faults: a ride that was cut off is kept whole where its first places are those of another day and none are there in
+    a tunnel, or where its distance begins anew. A hole in such a ride, which may be read as samples, is none."""
+    layout = b"\x40\0\0\x14\0\5" + b"".join(bytes([field, size, base]) for field, size, base in (
+        (253, 4, 0x86), (0, 4, 0x85), (1, 4, 0x85), (5, 4, 0x86), (3, 1, 2)))
+
+    def samples(count, place, way):
+        number = lambda n: n.to_bytes(4, "little")
+        return b"".join(b"\0" + number(START + at) + b"".join(map(number, (*place(at), way(at)))) + bytes([120 + at % 9]) for at in range(count))
+
+    def framed_open(content):
+        """A recording that was not closed: its length is not stated."""
+        return bytes([14, 0x20, 100, 0, 0, 0, 0, 0]) + b".FIT" + bytes(2) + content
+
+    moving, none, way = lambda at: (560000000 + 500 * at, 100000000 + 500 * at), (0x7FFFFFFF, 0x7FFFFFFF), lambda at: 700 * at
+    stale = lambda at: (574000000, 138000000) if at < 20 else none if 1500 <= at < 1510 else moving(at)
+    zeros = lambda at: (0, 0) if at < 90 else none if 1500 <= at < 2100 else moving(at)
+    legs = lambda at: 700 * (at % 1200)
+    begin = message(0, {(0, ENUM): 4, (4, UINT32): START})
+    for name, place, of in (("a place of another day", stale, way), ("no place, and a tunnel", zeros, way), ("legs", moving, legs)):
+        body = begin + layout + samples(3600, place, of)
+
+        def judge(shown, made):
+            last, kept = shown[-1], bytes_of(pathlib.Path(made[1]))
+            is_right = last["heading"] == "Your activity is rescued" and "Missing" not in last["reason"]
+            yield "what it says", unless(is_right, (last["heading"], last["reason"]), "all of it")
+            yield "its samples", differs([(it["timestamp"], it.get("distance")) for it in rows(kept)], [(START + at, of(at)) for at in range(3599)])
+
+        def of_a_hole(shown, made):
+            times = [it["timestamp"] for it in rows(bytes_of(pathlib.Path(made[1])))]
+            yield "no sample is made up", differs([it for it in times if not START <= it < START + 3600], [])
+            yield "what is missing", unless("Missing" in shown[-1]["reason"], shown[-1]["reason"], "Missing")
+
+        torn, start = framed_open(body[:-7]), len(begin) + len(layout) + 14 + 22 * 2400
+        hole = torn[:start] + bytes(22 * 200) + torn[start + 22 * 200:]
+        for kind, content, judged in (("cut off", torn, judge), ("with a hole", hole, of_a_hole)):
+            file = folder / ("%s-%s.fit" % (name.replace(" ", "-"), kind.replace(" ", "-")))
+            file.write_bytes(content)
+            for window in ("wide", "narrow"):
+                browser.visit("%s, %s, %s" % (name, kind, window), [{"files": [file]}, {"download": "#save"}], judged, **WINDOWS[window])
+        # Each visit is judged by what stands here now.
+        yield from browser.outcomes()
+    totals = message(18, {TIME: START + 1200, (2, UINT32): START, (5, ENUM): 5, (7, UINT32): 1200000, (8, UINT32): 1200000, (9, UINT32): 840000})
+    both = samples(2100, moving, legs)
+    first, second = both[:18 * 1200], both[18 * 1200:]
+
+    def judge_legs(shown, made):
+        reason = shown[-1]["reason"]
+        yield "what it says", unless("leave out 89" in reason and "very end" not in reason, reason, "the samples that are not counted")
+        yield "its samples", differs([it["timestamp"] for it in rows(bytes_of(pathlib.Path(made[1])))], [START + at for at in range(2099)])
+
+    file = folder / "leg-without-totals.fit"
+    file.write_bytes(framed_open(begin + layout + first + totals + layout + second[:-7]))
+    for window in ("wide", "narrow"):
+        browser.visit("a leg without totals, %s" % window, [{"files": [file]}, {"download": "#save"}], judge_legs, **WINDOWS[window])
+    yield from browser.outcomes()
+
+
+def _skipped(fitrec, folder, content):
+    """What the program keeps of a damaged file."""
+    (folder / "skipped").write_bytes(content)
+    run(fitrec, "salvage", "--skip", "--plain", folder / "skipped", folder / "skipped.fit")
+    return (folder / "skipped.fit").read_bytes()

@@ -120,8 +120,6 @@ def of_people(fitrec, folder, browser):
     sources = "".join((WEB / name).read_text() for name in os.listdir(WEB) if name.endswith((".js", ".html")) and name != "texts.js")
     words = set(re.findall(r"'(\w+)'|\"(\w+)\"|(\w+):", sources))
     known = {it for found in words for it in found} | {"fault" + it for it in FAULTS}
-    # Where a ride has no times, another text says so.
-    known |= {it.removesuffix("Untimed") + "Untimed" for it in known}
     yield "no text is left over", differs([it for it in texts["en"] if it not in known and not it.startswith("offer_")], [])
     yield from browser.outcomes()
 

@@ -34,7 +34,7 @@ def of_numbers(fitrec, folder, browser):
                 yield name + ": breaks", differs(curve["line"].count("M"), breaks)
             most = float(last["curves"]["Power"]["high"])
             yield "a wrong value does not flatten the rest", unless(most <= 400, most, "at most 400")
-            yield "a note on it", differs([it for it in last["notes"]], ["1 value cannot be right, and is left out."])
+            yield "a note on it", differs([it for it in last["notes"]], ["1 value cannot be right, and is not shown here."])
             xs = [float(it) for it in re.findall(r"[ML]([\d.-]+) ", made[1])]
             ys = [float(it) for it in re.findall(r"[ML][\d.-]+ ([\d.-]+)", made[1])]
             steps = [abs(a - b) for a, b in itertools.pairwise(xs)]

@@ -112,8 +112,14 @@ def of_values(fitrec, folder, browser):
             ("Speed", ENHANCED_SPEED, 0.0036, 0, 1, "km/h")):
         pairs = series(right, field, factor, more)
         captions[name] = line([it for _, it in pairs], over_time(pairs), unit, decimals)
-    one = "1 value cannot be right, and is left out."
-    visit("values that cannot be", ride(samples, [(0, 599, None)]), captions, [one, "2 values cannot be right, and are left out.", one, one])
+    one = "1 value cannot be right, and is not shown here."
+    visit("values that cannot be", ride(samples, [(0, 599, None)]), captions, [one, "2 values cannot be right, and are not shown here.", one, one])
+
+    # An altitude that a fault wrote leaps from its neighbours.
+    samples = [(at, {ALTITUDE: 50000 if at == 300 else 2700 + at // 10}) for at in range(600)]
+    right = series([it for it in samples if it[0] != 300], ALTITUDE, 0.2, -500)
+    visit("an altitude that leaps", ride(samples, [(0, 599, None)]), {"Altitude": line([it for _, it in right], over_time(right), "m")}, [one],
+          {"Ascent": "12 m"})
 
     # Seconds in which nobody pedals count once, and once they do not.
     samples = [(at, {CADENCE: 90 if at % 300 < 200 else 0, POWER: 200}) for at in range(1200)]
@@ -140,7 +146,7 @@ def of_values(fitrec, folder, browser):
     (folder / "zeros.fit").write_bytes(ride(samples))
 
     def of_zeros(shown, made):
-        yield "it says so", differs(shown[0]["notes"], ["6 values cannot be right, and are left out."])
+        yield "it says so", differs(shown[0]["notes"], ["6 values cannot be right, and are not shown here."])
         track = pathlib.Path(made[1]).read_text()
         yield "the track", differs((track.count("<trkpt"), 'lat="0.0' in track), (594, False))
         yield "the scale", differs(made[2], True)

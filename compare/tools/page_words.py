@@ -8,7 +8,7 @@ from tools.fit_files import framed
 from tools.page_values import BEGIN, ELAPSED, ENUM, HEART, LENGTH, TIME, TIMER, UINT32, message
 from tools.pages import RIDE, START, recorded, tour
 from tools.program import NAMES, run
-from tools.visits import FINE, MOSTLY, NOTHING, PARTLY, RESCUED, WIDTHS
+from tools.visits import FINE, MOSTLY, NOTHING, PARTLY, RESCUED, TOTALS as ONLY, WIDTHS
 
 DAY = 86400
 # No word of whoever made the device or the file, and what is read first has at most so many letters.
@@ -17,8 +17,10 @@ MAKERS, MOST = r"(?i)byte|checksum|message|journal|commit|fsck|header|definition
 CONFIRMED, READ = "Everything that the device had confirmed is in", "Everything that can be read of activity.fit is in"
 STOPPED, CUT, GAP = "The device stopped before it could close the recording. It goes to", "The file was cut off. It goes to", "Missing: "
 THERE, LITTLE = "The file is damaged, but all of it could be read.", "A few seconds of it are missing at most."
-NO_FIT, TOTALS = "ride.fit is not a FIT file.", "It has only totals: its course was not recorded, or is lost."
+NO_FIT, TOTALS = "ride.fit is not a FIT file.", "It has only totals: its course was not recorded, or cannot be read."
+NO_BEGIN, MOST_OF_IT = "ride.fit does not begin as a FIT file, and nothing in it can be read.", "Most of your activity is rescued"
 KIND, UNWRITTEN = "It is a FIT file of another kind", "ride.fit has nothing in it: it was never written, or was wiped."
+AT_ONCE = "ride.fit was cut off at its very beginning: nothing of the ride is in it."
 ADDED = "What websites need to accept it was missing, and has been added."
 
 
@@ -67,8 +69,16 @@ def inputs(fitrec, folder):
     yield "a hole of FF", one(holed(whole, (20480, 512, 255))), MOSTLY, GAP
     yield "three holes", one(holed(whole, (8192, 4096, 0), (28672, 512, 255), (50000, 9000, 15))), MOSTLY, GAP
     yield "no header", one(bytes(14) + whole[14:]), RESCUED, THERE
-    yield "no definitions", one(bytes(512) + whole[512:]), PARTLY, TOTALS
-    yield "without its front", one(whole[4096:]), PARTLY, TOTALS
+    yield "no definitions", one(bytes(512) + whole[512:]), ONLY % "ride", TOTALS
+    yield "without its front", one(whole[4096:]), ONLY % "ride", TOTALS
+    yield "neither front nor end", one(whole[4096:40000]), NOTHING, NO_BEGIN
+    back = samples + b"".join(message(20, {TIME: START + at - 7200, HEART: 120 + at % 9}) for at in range(900, 1500))
+    yield "times that go back", one(framed(begin + back)[:-2]), MOST_OF_IT, "What follows after 8:14:59"
+    begun = b"".join(message(20, {TIME: 300 + at, HEART: 120}) for at in range(60))
+    yield "a clock that began anew", one(framed(begin + begun + samples)[:-2]), "Your activity is rescued", "The clock of the device was wrong for 1 min"
+    old = framed(message(0, {(0, ENUM): 4, (4, UINT32): 300}) + b"".join(message(20, {TIME: 300 + at, HEART: 120}) for at in range(600)))
+    yield "a clock of 1989, cut off", one(old[:-2000]), "Most of your activity is rescued", "The file was cut off."
+    yield "totals behind a large hole", one(framed(begin + samples[:1000] + bytes(70000) + message(18, session))), "Part of your activity is rescued", GAP
     wrong = bytes(it ^ (1 << pick.randrange(8)) if pick.random() < 1 / 4000 else it for it in whole)
     yield "bits that changed", one(wrong), MOSTLY, GAP
     yield "a part of another ride", one(whole[:20480] + later[8192:16384] + whole[28672:]), MOSTLY, GAP
@@ -79,14 +89,17 @@ def inputs(fitrec, folder):
     yield "more after the end", one(whole + later[14:9000]), RESCUED, "After its end comes more, perhaps of another activity; you can add it."
     yield "zeros", one(bytes(40000)), NOTHING, UNWRITTEN
     yield "FF", one(b"\xFF" * 40000), NOTHING, UNWRITTEN
-    yield "any bytes", one(pick.randbytes(30000)), NOTHING, NO_FIT
+    yield "any bytes", one(pick.randbytes(30000)), NOTHING, NO_BEGIN
     yield "a text", one(b"Notes of my ride on sunday.\n" * 20), NOTHING, NO_FIT
+    yield "a picture", one(b"\x89PNG\r\n\x1a\n" + bytes(range(256)) * 20), NOTHING, NO_FIT
+    yield "cut off in its header", one(whole[:10]), NOTHING, AT_ONCE
+    yield "cut off after its header", one(whole[:100]), NOTHING, AT_ONCE
     yield "an empty file", one(b""), NOTHING, "ride.fit is empty."
     yield "a course", one(course), "This file is no activity", KIND
     yield "a damaged course", one(last(course)), "This file is no activity", KIND
     yield "no file_id", one(framed(samples)), "Your activity is rescued", ADDED
-    yield "totals alone", one(totals), "Your activity is rescued", TOTALS
-    yield "damaged totals", one(last(totals)), "Your activity is rescued", TOTALS
+    yield "totals alone", one(totals), ONLY % "activity", TOTALS
+    yield "damaged totals", one(last(totals)), ONLY % "activity", TOTALS
 
 
 def _holes(content, holes):
@@ -111,13 +124,13 @@ def of_words(fitrec, folder, browser):
             yield "nothing is said twice", differs(sorted(set(sentences)), sorted(sentences))
             parts = re.findall(r"\d+:\d+:\d+ [AP]M to \d+:\d+:\d+ [AP]M", first)
             yield "no part twice", differs(sorted(set(parts)), sorted(parts))
-            is_made = heading in (RESCUED, MOSTLY, PARTLY, "Your activity is rescued")
+            is_made = heading.endswith("is rescued") or heading.startswith("Only the totals")
             yield "the best rescue is there", differs(bool(last["download"]), is_made or "damaged" in first and heading == "This file is no activity")
         return judge
 
     said = {"evaluate": "['.lead', '.more', '#next', '#offers'].map(it => (document.querySelector(it) || {}).innerText || '')"}
     cases = list(inputs(fitrec, folder))
-    yield "so many", differs(len(cases), 41)
+    yield "so many", differs(len(cases), 49)
     for at, (name, files, heading, lead) in enumerate(cases):
         here = folder / str(at)
         here.mkdir()

@@ -2,6 +2,7 @@
 
 import json
 import re
+import sys
 
 from tools.checks import differs
 from tools.program import ROOT, run
@@ -12,16 +13,17 @@ WINDOWS = {"wide": {"width": 1280}, "narrow": {"width": 390, "touch": True},
 # What is laid out has to fit the narrowest phone too.
 WIDTHS = {"1280": {"width": 1280}, "390": {"width": 390, "touch": True}, "320": {"width": 320, "touch": True}}
 RESCUED, MOSTLY, PARTLY = "Your ride is rescued", "Most of your ride is rescued", "Part of your ride is rescued"
-FINE, NOTHING = "This file is fine", "Nothing could be rescued"
+FINE, NOTHING, TOTALS = "This file is fine", "Nothing could be rescued", "Only the totals of your %s are there"
 COMPLETED, LAST_LAP = "The laps and totals were missing.", "The last lap and the totals were missing."
-DATED = "This file is whole, but its date is wrong"
+DATED = "This file is whole, but its times are wrong"
 
 
-def visits(name, folder, asked, limit=900):
-    """What a browser answers to some visits; what it prints on standard error is an error here."""
+def visits(name, folder, asked, limit=3600):
+    """What a browser answers to some visits. Which of them were made once more is shown."""
     status, out, err = run(BROWSER, name, PAGE, folder, input=json.dumps(asked, default=str), timeout=limit)
-    if (status, err) != (0, ""):
+    if status != 0:
         raise RuntimeError("the browser ended with %s: %s" % (status, err[-2000:]))
+    sys.stderr.write(err)
     return json.loads(out)
 
 

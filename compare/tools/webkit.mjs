@@ -3,6 +3,7 @@
 
 import { spawn } from 'node:child_process';
 import { readdirSync, writeFileSync } from 'node:fs';
+import { request } from 'node:http';
 import { createServer } from 'node:net';
 import { join } from 'node:path';
 import { Tab } from './webdriver.mjs';
@@ -18,15 +19,32 @@ const freePort = () => new Promise(done => {
   });
 });
 
+// The driver's answer, over a connection of its own: `fetch` would give up on what takes 300 seconds, and use one that the driver may be
+// closing.
+const answered = (port, method, path, body) => new Promise((done, failed) => {
+  const headers = { 'content-length': Buffer.byteLength(body) };
+  const asked = request({ host: '127.0.0.1', port, method, path, headers, agent: false }, async answer => {
+    try {
+      let text = '';
+      for await (const part of answer.setEncoding('utf8')) text += part;
+      done(text);
+    } catch (error) {
+      failed(error);
+    }
+  });
+  asked.on('error', error => failed(new Error('the browser is gone: ' + error.message))).end(body);
+});
+
 export async function start(folder) {
   const screen = spawn('Xvfb', ['-displayfd', '3', '-screen', '0', '1400x1100x24'], { stdio: ['ignore', 'ignore', 'ignore', 'pipe'] });
   const display = await new Promise(done => screen.stdio[3].once('data', number => done(':' + String(number).trim())));
   const port = await freePort(), env = { ...process.env, DISPLAY: display, LC_ALL: 'en_US.UTF-8', TZ: 'UTC', HOME: folder };
   const driver = spawn('WebKitWebDriver', ['--port=' + port], { stdio: 'ignore', env });
-  process.on('exit', () => [driver, screen].forEach(it => it.kill()));
+  const kill = () => [driver, screen].forEach(it => it.kill()), ended = [driver, screen].map(it => new Promise(done => it.on('close', done)));
+  process.on('exit', kill);
   const library = readdirSync(LIBRARIES).find(name => name.startsWith('webkit2gtk-')), binary = join(LIBRARIES, library, 'MiniBrowser');
   const send = async (method, path, body) => {
-    const answer = await fetch(`http://127.0.0.1:${port}${path}`, { method, body: body && JSON.stringify(body) }), { value } = await answer.json();
+    const { value } = JSON.parse(await answered(port, method, path, body ? JSON.stringify(body) : ''));
     if (value && value.error) throw new Error(`${path}: ${value.message || value.error}`);
     return value;
   };
@@ -41,10 +59,11 @@ export async function start(folder) {
       await tab.command('SetWindowRect', { width, height });
       return tab;
     },
-    end() {
-      driver.kill();
-      screen.kill();
+    async end() {
+      kill();
+      await Promise.all(ended);
     },
+    kill,
   };
 }
 
