@@ -20,6 +20,8 @@ MODULES = ("/usr/lib/uml/modules", ("nbd", "vfat", "f2fs", "nls_cp437", "nls_iso
 LIMIT = 3600
 # A quiet kernel, whose root is that of this system, read only.
 KERNEL = ["linux.uml", "mem=640M", "rootfstype=hostfs", "rootflags=/", "ro", "con=null", "con0=fd:0,fd:1", "panic=-1", "quiet", "loglevel=1"]
+# Its programs use no registers but those that it keeps, which are those of SSE (filesystems/host/registers.c).
+REGISTERS = "GLIBC_TUNABLES=glibc.cpu.hwcaps=-AVX,-AVX2,-AVX512F,-AVX512VL,-AVX512BW,-XSAVE,-XSAVEC,-AVX_Fast_Unaligned_Load"
 # The driver, the size in MiB, how the disk is made, and the mount options.
 CASES = {
     "ext4": ("ext4", 64, "mkfs.ext4 -q -F -b 4096", ""),
@@ -101,8 +103,9 @@ class Guest:
         self.share, self.seed, self.program = share, seed, pathlib.Path(fitrec).resolve()
         (share / "found").mkdir()
         (share / "modules").write_text("\n".join(modules()) + "\n")
-        words = ["cc", "-std=gnu11", "-O2", "-Wall", "-Wextra", "-Werror", "-static", "-pthread", *sorted((ROOT / "compare/filesystems").glob("*.c"))]
-        subprocess.run([*words, "-o", share / "guest"], check=True)
+        sources, words = ROOT / "compare/filesystems", ["cc", "-std=gnu11", "-O2", "-Wall", "-Wextra", "-Werror"]
+        subprocess.run([*words, "-static", "-pthread", *sorted(sources.glob("*.c")), "-o", share / "guest"], check=True)
+        subprocess.run([*words, "-shared", "-fPIC", sources / "host/registers.c", "-o", share / "registers.so"], check=True)
 
     def image(self, case):
         """The disk of a case, as it was made."""
@@ -120,10 +123,11 @@ class Guest:
         driver, _, _, options = CASES[case]
         known = {"mode": mode, "fs": driver, "options": options, "image": self.image(case), "seed": self.seed}
         settings = {"share": self.share, "found": self.share / "found", "program": self.program} | known | settings
-        words = [*KERNEL, "init=%s/guest" % self.share, *("%s=%s" % it for it in settings.items() if it[1] != "")]
+        words = [*KERNEL, "init=%s/guest" % self.share, REGISTERS, *("%s=%s" % it for it in settings.items() if it[1] != "")]
         # Its processes trace one another, which is twice as fast on one core.
         core = {max(os.sched_getaffinity(0))}
-        with subprocess.Popen(words, stdin=subprocess.DEVNULL, stdout=subprocess.PIPE, stderr=subprocess.STDOUT, start_new_session=True,
+        hidden = os.environ | {"LD_PRELOAD": str(self.share / "registers.so")}
+        with subprocess.Popen(words, stdin=subprocess.DEVNULL, stdout=subprocess.PIPE, stderr=subprocess.STDOUT, start_new_session=True, env=hidden,
                               preexec_fn=lambda: os.sched_setaffinity(0, core)) as child:
             try:
                 said = child.communicate(timeout=LIMIT)[0]
