@@ -4,7 +4,6 @@ a clone on a machine without the kit saves a ride by it. Faults that are planted
 What is made here is compared where it is made: the page in page.py, the static libraries in library.py and device.py, and the objects for
 devices there too; the shared library and the wheel here."""
 
-import base64
 import hashlib
 import os
 import pathlib
@@ -21,7 +20,7 @@ from tools.release import OBJECTS, RELEASE, is_of_these_sources, kept, said_by, 
 from tools.rides import script_of
 
 NEEDS = ("fitrec", "node", "dpkg", "rt", "cc", "python3-setuptools", "python3-wheel", "python3-pip")
-MOST = 3_100_000
+MOST = 3_150_000
 # What is taken as it stands in the tree.
 COPIED = ["include/fitrec.h", "include/fitrec_device.h", "docs/fitrec.1", "completions/fitrec.bash", "completions/_fitrec", "completions/fitrec.fish"]
 MADE = ["fitrec", "fitrec.html", "manifest.webmanifest", "service-worker.js", "icon.svg", "libfit_c.a", "libfit_device.a", "libfitrec.so", *OBJECTS]
@@ -70,6 +69,17 @@ def faults_of_wheel(release, wheel):
     wanted = {"fitrec/" + it.name: it.read_bytes() for it in (ROOT / "python/fitrec").iterdir() if it.is_file()}
     if its != wanted | {"fitrec/libfitrec.so": bytes_of(release / "libfitrec.so")}:
         yield "the wheel has other files than python/fitrec and the shared library"
+
+
+def bytes_in(text):
+    """The bytes of a text in base 94: eleven letters for each nine bytes, and a tab and ~ for a quotation mark and a backslash."""
+    digits, found = [ord(it) - 32 for it in text.replace("~", "\\").replace("\t", '"')], b""
+    for at in range(0, len(digits), 11):
+        n = 0
+        for it in digits[at:at + 11]:
+            n = 94 * n + it
+        found += n.to_bytes(9, "big")
+    return found.lstrip(b"\0")
 
 
 def needed_by(program):
@@ -168,8 +178,8 @@ def of_a_clone(fitrec):
             yield "the page of a clone", missing("node")
         else:
             # The page has its scripts and the module deflated; the module is longer.
-            module = max(re.findall(r"""["'`]([\w+/=]{1000,})["'`]""", (folder / "clone/release/fitrec.html").read_text()), key=len)
-            (folder / "module.wasm").write_bytes(zlib.decompress(base64.b64decode(module)))
+            module = max(re.findall(r'"([^"\n]{1000,})"', (folder / "clone/release/fitrec.html").read_text()), key=len)
+            (folder / "module.wasm").write_bytes(zlib.decompress(bytes_in(module)))
             words = ["save", folder / "FOLDER/activity.fit", folder / "FOLDER/activity.frj", folder / "page.fit"]
             said = run(ROOT / "compare/module.mjs", *words, env=os.environ | {"FITREC_MODULE": str(folder / "module.wasm")})
             wanted = 0, "0\n" + wanted[1], ""

@@ -1,5 +1,6 @@
 """Tries the wrong bodies of crates/NAME/wrong/in_gate: the prover has to refuse each by a goal of the function that it changes. Several are
-tried in one check, of the changed functions and what they call."""
+tried in one check, of the changed functions and what they call. Those of crates/NAME/wrong are tried by hand (compare/wrong); here each has to
+change a text that still stands."""
 
 import concurrent.futures
 import pathlib
@@ -21,6 +22,11 @@ JOBS = ["--jobs", "1"]
 
 def bodies_of(crate):
     return sorted(pathlib.Path(crate.folder, "wrong/in_gate").glob("*.edit"))
+
+
+def lost(rt, crate):
+    """The names of the wrong bodies that change no text, or not just one."""
+    return [it.stem for it in sorted(pathlib.Path(crate.folder, "wrong").glob("*.edit")) if not rt.read_edit(it, crate.folder)[0]]
 
 
 def tried(rt, crate, waits):
@@ -48,7 +54,10 @@ def tried(rt, crate, waits):
 def check(given):
     rt = kept.load_rt()
     rt.rtlib.guarded()
-    crates = [it for it in rt.rtlib.crates_below(str(ROOT)) if bodies_of(it) and (not given.groups or it.name in given.groups)]
+    named = [it for it in rt.rtlib.crates_below(str(ROOT)) if not given.groups or it.name in given.groups]
+    for crate in named:
+        yield crate.name + ", texts that wrong bodies change", differs(lost(rt, crate), [])
+    crates = [it for it in named if bodies_of(it)]
     # The gate proves them in this order.
     crates.sort(key=lambda it: len(it.below()))
     for crate in () if given.waits else crates:

@@ -16,6 +16,7 @@
 
        84,000 bytes   fitrec_show, fitrec_json
        58,000 bytes   fitrec_columns, fitrec_fields, fitrec_values
+       29,000 bytes   fitrec_join
        17,000 bytes   fitrec_shift, fitrec_shift_start
        14,000 bytes   fitrec_save, fitrec_plain
        13,000 bytes   fitrec_finish
@@ -301,6 +302,48 @@ uint8_t fitrec_shift(const uint8_t *bytes, size_t size, int64_t seconds, uint8_t
    The rest, and the answers, are those of fitrec_shift. */
 uint8_t fitrec_shift_start(const uint8_t *bytes, size_t size, uint32_t start, uint8_t *out, size_t out_size, uint64_t *out_len,
                            uint64_t *fault_place);
+
+/* The time of the first sample, event or lap of a FIT file that has one. It puts the parts of an activity in their order, for fitrec_join.
+
+   bytes, size   the file
+   time          is set after 0, in seconds since 1989-12-31 00:00 UTC
+   fault_place   the place of the fault, after 1 to 9
+
+   Answers 0, one of 1 to 9 above, or FITREC_FIRST_TIME_NONE. */
+enum {
+    FITREC_FIRST_TIME = 0,
+    FITREC_FIRST_TIME_NONE = 27 /* none has a time */
+};
+uint8_t fitrec_first_time(const uint8_t *bytes, size_t size, uint32_t *time, uint64_t *fault_place);
+
+/* How many parts fitrec_join joins at most. */
+#define FITREC_MOST_PARTS 64
+
+/* Writes one activity of several files, such as the halves of a ride whose device stopped and began a new file: their messages, one file
+   after another, without the sessions, activity messages and laps that only sum up one of them. Distances go on from file to file, laps are
+   numbered in turn, and between two files the timer stands. What the whole activity then lacks, fitrec_finish adds.
+
+   bytes, size   the parts, one after another: each is the plain form of a file, as fitrec_plain writes it, and they are in the order of
+                 their first times
+   as_given      take parts of different sports, and parts that begin before another one ends
+   out, out_size the buffer of the new file
+   out_len       how many bytes the new file has, after 0 and FITREC_JOIN_NO_ROOM
+   fault_place   the place of the fault, after 1 to 9; the place where the part begins, after FITREC_JOIN_OTHER_SPORT,
+                 FITREC_JOIN_OVERLAP and FITREC_JOIN_NOT_PLAIN
+
+   Answers 0, one of 1 to 9 above for a part that is no FIT file, or one of these. After FITREC_JOIN_NO_ROOM the bytes of out may have
+   changed. */
+enum {
+    FITREC_JOINED = 0,
+    FITREC_JOIN_NO_ROOM = 20,     /* the new file has no room in out */
+    FITREC_JOIN_TOO_LONG = 21,    /* the new file would be too large */
+    FITREC_JOIN_OTHER_SPORT = 29, /* a part has another sport than those before it */
+    FITREC_JOIN_OVERLAP = 30,     /* a part begins before one of those before it ends */
+    FITREC_JOIN_NOT_PLAIN = 31,   /* a part has a compressed timestamp */
+    FITREC_JOIN_MORE_PARTS = 32   /* there are more than FITREC_MOST_PARTS */
+};
+uint8_t fitrec_join(const uint8_t *bytes, size_t size, bool as_given, uint8_t *out, size_t out_size, uint64_t *out_len,
+                    uint64_t *fault_place);
 
 /* Writes the text of a FIT file: a line for its header, one for each message, and one that counts them, as docs/FORMAT.md describes it.
    It is ASCII, lines end with a line feed, and no zero byte follows.

@@ -60,12 +60,12 @@ enum {
     FITREC_HAS_POWER = 128,
     FITREC_HAS_HEART_RATE = 256,
     FITREC_HAS_CADENCE = 512,
-    FITREC_HAS_TEMPERATURE = 1024
+    FITREC_HAS_TEMPERATURE = 1024,
+    FITREC_PLAIN_TIME = 2048 /* no value: the time is written in full, for readers that misread compressed timestamps; four bytes more */
 };
 
-/* The values of the sensors at one time. What is not named in has is absent, so a sample of zeros has no values. A value that is the
-   greatest number of its type, such as UINT16_MAX, is absent too. A device gives speed or enhanced_speed, and altitude or
-   enhanced_altitude, whichever it measures. */
+/* The values of the sensors at one time. What is not named in has is absent, so a sample of zeros has no values. The greatest number of a
+   type, such as UINT16_MAX, is absent too. A device gives speed or enhanced_speed, altitude or enhanced_altitude, whichever it measures. */
 struct fitrec_sample {
     uint32_t time;              /* of the device's clock in a session, of the ride in fitrec_add_sample */
     int32_t lat;                /* semicircles: 2^31 of them are 180 degrees */
@@ -101,8 +101,7 @@ struct fitrec_call {
     uint64_t at;    /* the place of a write in its file, or the length that a cut leaves */
     uint16_t start; /* the bytes of a write are count bytes of the plan from start on */
     uint16_t count;
-    uint8_t kind;
-    uint8_t file;
+    uint8_t kind, file;
 };
 
 struct fitrec_plan {
@@ -142,7 +141,8 @@ struct fitrec_device {
     int (*cut)(void *file, uint32_t size);
     int (*sync)(void *file);
     void *files[2];         /* of activity.fit and of activity.frj */
-    uint8_t keeps_distance; /* 0: distances may begin at 0 again after a boot, and are then added to the last one; 1: they never do */
+    uint8_t keeps_distance; /* 0: distances may begin at 0 again after a reset, and are then added to the last one; 1: they never do */
+    uint8_t plain_times;    /* 1: each sample has FITREC_PLAIN_TIME */
 };
 
 /* What a boot finds. */
