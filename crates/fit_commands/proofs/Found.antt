@@ -2,7 +2,7 @@
 use Rattle.std.proofs.Common.{◌≡◌, ◌≢◌, Bool, true, false, ℕ, ◌+◌, ◌-◌, ◌≤◌, List, [], ◌∷◌, ◌++◌, length, get_or, take, drop, map, codes, Result, Ok, Err, Option, Some, None, refl, sym, ap, subst, ◌∙◌, append_assoc, append-nil, arith, Global}
 use Rattle.std.proofs.lemmas.List.{take_all, length-take, length-drop}
 use Rattle.std.proofs.KnownBytes.{Appends-nil}
-use Rattle.std.specs.Prelude.{String, string_bytes, IfSome}
+use Rattle.std.specs.Prelude.{String, string_bytes, IfSome, is_ok}
 use Rattle.std.specs.Fmt.{◌++?◌}
 use Rattle.std.specs.Result.{IsErr}
 use Rattle.std.specs.Io.KnownBytes.{Appends}
@@ -64,32 +64,30 @@ formatted : (o : Option (List ℕ)) (front name text : List ℕ) (P : List ℕ �
 formatted None front name text P is holds = tt
 formatted (Some t) front name text P is holds = subst P is holds
 
-pub line_written : (o : Option (List ℕ)) (front name text bytes : List ℕ) (old new : Option (List ℕ))
+pub line_printed : {E : Type 0} (o : Option (List ℕ)) (front name text bytes : List ℕ) (old new : Option (List ℕ))
+    (done : Result (Unit {0}) E) (told : Result (Unit {0}) Fault)
     → IfSome (Some front ++? (Some (shown_text name) ++? (Some (codes ": ") ++? (o ++? Some (codes "\n"))))) (λ bs. text ≡ bs)
-    → bytes ≡ text → Appends old new bytes
-    → IfSome o (λ t. WritesText {T = Unit {0}} {E = Fault} old new (Ok (tt {0})) (named_line front name t))
-line_written o front name text bytes old new is same all =
-    formatted o front name text (λ l. WritesText {T = Unit {0}} {E = Fault} old new (Ok (tt {0})) l) is
-    (record { all = subst (Appends old new) same all; beginning = tt })
-
-pub line_cut : (o : Option (List ℕ)) (front name text bytes : List ℕ) (old new : Option (List ℕ)) (fault : Fault)
-    → IfSome (Some front ++? (Some (shown_text name) ++? (Some (codes ": ") ++? (o ++? Some (codes "\n"))))) (λ bs. text ≡ bs)
-    → bytes ≡ text → AppendsBeginning old new bytes
-    → IfSome o (λ t. WritesText {T = Unit {0}} {E = Fault} old new (Err fault) (named_line front name t))
-line_cut o front name text bytes old new fault is same begins =
-    formatted o front name text (λ l. WritesText {T = Unit {0}} {E = Fault} old new (Err fault) l) is
-    (record { all = tt; beginning = subst (AppendsBeginning old new) same begins })
+    → bytes ≡ text → is_ok told ≡ is_ok done → WritesText old new done bytes
+    → IfSome o (λ t. WritesText old new told (named_line front name t))
+line_printed o front name text bytes old new (Ok x) (Ok y) is same alike wrote =
+    formatted o front name text (λ l. WritesText {T = Unit {0}} {E = Fault} old new (Ok y) l) is
+    (record { all = subst (Appends old new) same wrote.all; beginning = tt })
+line_printed o front name text bytes old new (Err x) (Err y) is same alike wrote =
+    formatted o front name text (λ l. WritesText {T = Unit {0}} {E = Fault} old new (Err y) l) is
+    (record { all = tt; beginning = subst (AppendsBeginning old new) same wrote.beginning })
+line_printed o front name text bytes old new (Ok x) (Err y) is same alike wrote = absurd (cc)
+line_printed o front name text bytes old new (Err x) (Ok y) is same alike wrote = absurd (cc)
 
 -- a line that was not written
-pub nothing_written : (old : Option (List ℕ)) (fault : Fault) (text : List ℕ)
-    → WritesText {T = Unit {0}} {E = Fault} old old (Err fault) text
-nothing_written old fault text =
+pub nothing_written : (old : Option (List ℕ)) (r : Result (Unit {0}) Fault) (text : List ℕ) → IsErr r → WritesText old old r text
+nothing_written old (Ok x) text bad = absurd (cc)
+nothing_written old (Err fault) text bad =
     record { all = tt; beginning = record { part = []; rest = text; split = refl; appended = Appends-nil old } }
 
-pub no_line : (o : Option (List ℕ)) (front name : List ℕ) (old : Option (List ℕ)) (fault : Fault)
-    → IfSome o (λ t. WritesText {T = Unit {0}} {E = Fault} old old (Err fault) (named_line front name t))
-no_line None front name old fault = tt
-no_line (Some t) front name old fault = nothing_written old fault (named_line front name t)
+pub no_line : (o : Option (List ℕ)) (front name : List ℕ) (old : Option (List ℕ)) (r : Result (Unit {0}) Fault) → IsErr r
+    → IfSome o (λ t. WritesText old old r (named_line front name t))
+no_line None front name old r bad = tt
+no_line (Some t) front name old r bad = nothing_written old r (named_line front name t) bad
 
 -- a call that stops has printed the lines of the first files
 pub checks_stop : (json : Bool) (held : List ℕ → Option (List ℕ)) (names : List (List ℕ)) (files : List FoundFile) (others : List (List ℕ)) (old new : Option (List ℕ)) (text : List ℕ)

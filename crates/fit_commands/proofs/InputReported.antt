@@ -1,11 +1,11 @@
 -- What is printed of a file, as it is reported.
-use Rattle.std.proofs.Common.{◌≡◌, inl, inr, ℕ, List, Option, Result, Err, Bor, refl, subst, sym}
+use Rattle.std.proofs.Common.{◌≡◌, inl, inr, ℕ, List, Option, Result, Ok, Err, Bor, refl, ap, subst, sym}
 use Rattle.fit_files.specs.declared.fault.ReportFault.{ReportFault}
 use Rattle.fit_files.specs.declared.fault.ReportFault.TheVariants.{File, Activity, Output, Input, Plain}
 use Rattle.fit_files.specs.declared.reading.ReadFault.{ReadFault}
 use Rattle.fit_files.specs.declared.reading.ReadFault.TheVariants as reads
 use Rattle.fit_files.specs.Calls.Reading.{ReadsAll, ReportsInput}
-use Rattle.fit_commands.specs.Faults.{IsReportFault}
+use Rattle.fit_commands.specs.Faults.{AnswersReport, IsReportFault}
 use Rattle.fit_commands.specs.Reading.{IsFileFault, IsRead, fault_of_read}
 use Rattle.fit_commands.specs.Reported.{ReportsRun}
 use Rattle.fit_commands.specs.declared.fault.Fault.{Fault}
@@ -30,3 +30,15 @@ input_reported held name IsResult old new from after Output reported same (bytes
 input_reported held name IsResult old new from after (Plain why) reported same (bytes, read, is) quiet by = inr (Plain why, by, bytes, input_read held from after bytes same read, is)
 input_reported held name IsResult old new from after (Input why) reported same shown quiet by =
     inl (subst (IsFileFault name) (sym by) (file_fault name why), quiet why refl)
+
+-- the same, or what was made of the bytes
+pub input_answered : {T : Type 0} (held : Option (List ℕ)) (name : Bor (List ℕ)) (IsResult : List ℕ → Result T ReportFault → Type 0) (old new from after : Option (List ℕ)) (done : Result T ReportFault) (reported : Result T Fault)
+    → from ≡ held → ReportsInput {T = T} 268435456 from after IsResult done
+    → ((refused : ReadFault) → done ≡ Err (Input refused) → new ≡ old) → AnswersReport name done reported
+    → ReportsRun {T = T} held name old new (IsReportFault name) IsResult reported
+input_answered {T} held name IsResult old new from after (Ok made) (Ok told) same (bytes, read, is) quiet by =
+    (bytes, input_read held from after bytes same read, subst (λ (v : T). IsResult bytes (Ok v)) (sym by) is)
+input_answered held name IsResult old new from after (Err why) (Err fault) same shown quiet by =
+    input_reported held name IsResult old new from after why fault same shown (λ refused is. quiet refused (ap Err is)) by
+input_answered held name IsResult old new from after (Ok made) (Err fault) same shown quiet by = absurd by
+input_answered held name IsResult old new from after (Err why) (Ok told) same shown quiet by = absurd by

@@ -32,6 +32,12 @@ IsReportFault name reports.Output _ = ⊥
 IsReportFault name (reports.Input why) reported = reported ≡ fault_of_read name why
 IsReportFault name (reports.Plain fault) reported = reported ≡ faults.Plain fault
 
+-- the program's result for that of an input of this name
+abbrev pub AnswersReport : {T : Type 0} → Bor (List ℕ) → Result T ReportFault → Result T Fault → Type 0
+AnswersReport name (Ok done) (Ok reported) = reported ≡ done
+AnswersReport name (Err why) (Err reported) = IsReportFault name why reported
+AnswersReport name _ _ = ⊥
+
 -- for an activity that is not finished
 abbrev pub fault_of_finish : FinishFault → Fault
 fault_of_finish finishes.NotActivity = faults.Activity activities.NotActivity

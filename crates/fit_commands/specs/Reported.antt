@@ -44,6 +44,23 @@ use Rattle.fit_commands.specs.Reading.{IsFileFault, IsRead, IsReadFront}
 use Rattle.fit_commands.specs.declared.fault.Fault.{Fault}
 use Rattle.fit_commands.specs.declared.fault.Fault.TheVariants as faults
 
+-- A transition: what the file of each name holds and what is printed, before a run and after it.
+pub record Transition : Type 0 where
+  pub held_before : List ℕ → Option (List ℕ)
+  pub held_after : List ℕ → Option (List ℕ)
+  pub printed_before : Option (List ℕ)
+  pub printed_after : Option (List ℕ)
+
+-- that of these files and this output, by what they hold in each state
+abbrev pub transition_of : {F O : Type 0} → (F → List ℕ → Option (List ℕ)) → F → F → (O → Option (List ℕ)) → O → O → Transition
+transition_of held old new contents before after =
+    record {
+      held_before = held old;
+      held_after = held new;
+      printed_before = contents before;
+      printed_after = contents after;
+    }
+
 -- `IsResult` holds of the bytes of the file of this name, which holds this, and the result, and the program's fault is one for a fault of
 -- that; or the file was not opened or not read, and nothing is printed.
 abbrev pub ReportsRun : {T F : Type 0} → Option (List ℕ) → Bor (List ℕ) → Option (List ℕ) → Option (List ℕ)
@@ -192,13 +209,14 @@ IsNotSplit all held name folder fault =
 
 -- They were found, one or more, and a line printed for each that was written into the folder: after Ok for all. Or they were not, no file has
 -- changed, and nothing is printed.
-abbrev pub SplitsFile : Bool → Bor (List ℕ) → Bor (List ℕ) → (List ℕ → Option (List ℕ)) → (List ℕ → Option (List ℕ)) → Option (List ℕ)
-    → Option (List ℕ) → Result (Unit {0}) Fault → Type 0
-SplitsFile all name folder old new before after result =
-    ((fault : Fault) × (result ≡ Err fault) × IsNotSplit all (old name.now) name folder fault × (new ≡ old) × (after ≡ before))
-    ⊎ ((bytes : List ℕ) × IsRead (old name.now) bytes × (parts : List Part) × AreParts all bytes parts
-    × (1 ≤ length parts) × AreNotTooMany all parts × (1 ≤ length folder.now) × PrintsLines parts before after result
-    × OnOk result (WritesParts folder.now parts old new) × IfErr result (IsPartReported folder))
+abbrev pub SplitsFile : Bool → Bor (List ℕ) → Bor (List ℕ) → Transition → Result (Unit {0}) Fault → Type 0
+SplitsFile all name folder run result =
+    ((fault : Fault) × (result ≡ Err fault) × IsNotSplit all (run.held_before name.now) name folder fault
+    × (run.held_after ≡ run.held_before) × (run.printed_after ≡ run.printed_before))
+    ⊎ ((bytes : List ℕ) × IsRead (run.held_before name.now) bytes × (parts : List Part) × AreParts all bytes parts
+    × (1 ≤ length parts) × AreNotTooMany all parts × (1 ≤ length folder.now)
+    × PrintsLines parts run.printed_before run.printed_after result
+    × OnOk result (WritesParts folder.now parts run.held_before run.held_after) × IfErr result (IsPartReported folder))
 
 -- it is the plain form of a file that holds this
 abbrev pub IsFormOfFile : Option (List ℕ) → FileValue → Type 0

@@ -1,12 +1,12 @@
 // Writes a file whole or not at all, and names the fault if it is not written.
 
+ghost use Rattle.fit_commands.specs.Reported.{transition_of};
 ghost use Rattle.fit_commands.specs.Written.{WritesFile, WritesOut, count_line};
 
 use crate::content::Content;
 use crate::fault::Fault;
-use crate::input::fault_of_report;
+use crate::input::reported;
 use fit_files::print_messages;
-use fit_grammar::EncodeFault;
 use fit_places::{NamedFiles, PlaceFault};
 use std::io::Write;
 
@@ -33,14 +33,11 @@ pub fn write_counted<'a, F: NamedFiles, C: Content, O: Write>(
     count: usize,
     out: &mut O,
 ) -> Result<(), Fault<'a>>
-    ensures { WritesOut (C.bytes content.now) (count_line count) name.entry (F.held files.old) (F.held files.new)
-        (O.contents out.old) (O.contents out.new) result }
+    ensures { WritesOut (C.bytes content.now) (count_line count) name.entry
+        (transition_of F.held files.old files.new O.contents out.old out.new) result }
 {
     write_whole(files, name, content)?;
-    match print_messages(count, out) {
-        Ok(()) => Ok(()),
-        Err(fault) => Err(fault_of_report(name, fault)),
-    }
+    reported(name, print_messages(count, out))
 }
 
 // A content, as a place takes it.
@@ -53,9 +50,6 @@ impl<C: Content> fit_places::Content for Placed<'_, C> {
     ghost bytes = { λ placed. C.bytes placed.content.now };
 
     fn write_to<W: Write>(&self, out: &mut W) -> Result<(), PlaceFault> {
-        match self.content.write_to(out) {
-            Ok(()) => Ok(()),
-            Err(EncodeFault::Write) => Err(PlaceFault::Failed),
-        }
+        self.content.write_to(out).map_err(|_| PlaceFault::Failed)
     }
 }

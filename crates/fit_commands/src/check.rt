@@ -5,7 +5,7 @@ ghost use Rattle.fit_commands.specs.Faults.{IsReportFault};
 ghost use Rattle.fit_commands.specs.Reported.{ReportsRun};
 
 use crate::fault::Fault;
-use crate::input::{MOST_BYTES, fault_of_report, open_file};
+use crate::input::{MOST_BYTES, open_file, reported};
 use fit_files::check_input;
 use fit_places::NamedFiles;
 use std::io::Write;
@@ -21,8 +21,5 @@ pub fn check_file<'a, F: NamedFiles + AllocGlobal, O: Write>(
         (ChecksBytes (O.contents out.old) (O.contents out.new)) result }
 {
     let mut file = open_file(files, name)?;
-    match check_input(files.alloc(), &mut file, MOST_BYTES, out) {
-        Ok(()) => Ok(()),
-        Err(fault) => Err(fault_of_report(name, fault)),
-    }
+    reported(name, check_input(files.alloc(), &mut file, MOST_BYTES, out))
 }

@@ -41,7 +41,10 @@ impl<'a> Chosen<'a> {
     /// The messages and fields that the words name: records, and the fields that have a name, if there are no words. With
     /// `--profile` these are the first 127 of the Profile, after the time.
     pub fn of(form: &TableForm<'a>) -> Result<Chosen<'a>, NotChosen<'a>> {
-        let message = message_in(form.profile, form.message)?;
+        let message = match form.message {
+            Some(word) => message_of_word(form.profile, word).ok_or(NotChosen::Message(word))?,
+            None => RECORD,
+        };
         match form.fields {
             Some(words) => named_in(form.profile, message, words),
             None if form.profile => Ok(Chosen::with(message, profile_fields(message))),
@@ -86,23 +89,12 @@ impl<'a> Chosen<'a> {
             raw: form.raw,
             utc: form.utc,
             profile: form.profile,
-            developer: self.developer(form),
+            developer: match form.fields {
+                Some(_) => DeveloperColumns::Named(&self.names),
+                None if form.profile => DeveloperColumns::All,
+                None => DeveloperColumns::Without,
+            },
         }
-    }
-
-    fn developer(&self, form: &TableForm<'_>) -> DeveloperColumns<'_> {
-        match form.fields {
-            Some(_) => DeveloperColumns::Named(&self.names),
-            None if form.profile => DeveloperColumns::All,
-            None => DeveloperColumns::Without,
-        }
-    }
-}
-
-fn message_in<'a>(profile: bool, word: Option<&'a str>) -> Result<u16, NotChosen<'a>> {
-    match word {
-        Some(word) => message_of_word(profile, word).ok_or(NotChosen::Message(word)),
-        None => Ok(RECORD),
     }
 }
 

@@ -9,7 +9,7 @@ ghost use Rattle.std.proofs.Props.{props};
 
 use fit_files::Salvage;
 use fit_finishing::Finishing;
-use fit_grammar::{EncodeFault, File, WriteFailed, encode_file};
+use fit_grammar::{EncodeFault, File, encode_file};
 use std::io::Write;
 
 /// The content of a file. Its bytes are known before any of them is written.
@@ -32,10 +32,7 @@ impl Content for Salvage<'_> {
     ghost bytes = { λ salvage. saved_file salvage };
 
     fn write_to<W: Write>(&self, out: &mut W) -> Result<(), EncodeFault> {
-        match self.write(out) {
-            Ok(()) => Ok(()),
-            Err(WriteFailed) => Err(EncodeFault::Write),
-        }
+        self.write(out).map_err(|_| EncodeFault::Write)
     }
 }
 
@@ -51,9 +48,7 @@ impl Content for FinishedFile {
     ghost bytes = { λ finished. encoded (finished_by finished.file finished.finishing) };
 
     fn write_to<W: Write>(&self, out: &mut W) -> Result<(), EncodeFault> {
-        match self.finishing.write_file(&self.file, out) {
-            Ok(()) => Ok(()),
-            Err(WriteFailed) => Err(EncodeFault::Write),
-        }
+        let done = self.finishing.write_file(&self.file, out);
+        done.map_err(|_| EncodeFault::Write)
     }
 }

@@ -9,8 +9,8 @@ ghost use Rattle.fit_commands.specs.declared.fault.Fault.TheVariants.{Refused};
 ghost use Rattle.fit_commands.specs.Reading.{IsFileFault};
 ghost use Rattle.fit_commands.specs.Reported.{SumsUpNamed};
 
-use crate::fault::Fault;
-use crate::input::{MOST_BYTES, fault_of_report, open_file, read_input};
+use crate::fault::{Fault, none_refused};
+use crate::input::{MOST_BYTES, fault_of_report, open_file, read_input, reported};
 use fit_activity::Summary;
 use fit_files::{ReportFault, SummaryLine, print_checked, sum_up_input, table_head, table_input};
 use fit_grammar::Sink;
@@ -33,10 +33,7 @@ pub fn check_each<F: NamedFiles + AllocGlobal, O: Write>(
         (O.contents out.old) (O.contents out.new) result }
 {
     let all = all_names(files, names)?;
-    match check_all(files, all.as_slice(), json, out) {
-        Ok(refused) => none_refused(refused),
-        Err(fault) => Err(fault),
-    }
+    none_refused(check_all(files, all.as_slice(), json, out)?)
 }
 
 // Checks the files of these names, and prints a line for each. Returns how many are refused.
@@ -89,10 +86,7 @@ pub fn table_each<F: NamedFiles + AllocGlobal, O: Write, E: Write>(
     let Ok(()) = table_head(layout, b"file,", out) else {
         return Err(Fault::Write("-"));
     };
-    match table_all(files, all.as_slice(), layout, out, err) {
-        Ok(left_out) => none_refused(left_out),
-        Err(fault) => Err(fault),
-    }
+    none_refused(table_all(files, all.as_slice(), layout, out, err)?)
 }
 
 // 1 if a file was left out.
@@ -126,17 +120,6 @@ fn table_all<F: NamedFiles + AllocGlobal, O: Write, E: Write>(
     Ok(left_out)
 }
 
-fn none_refused(refused: usize) -> Result<(), Fault<'static>>
-    ensures none { OnOk result (refused ≡ 0) }
-    ensures number { IfErr result (λ fault. (fault ≡ Refused refused) × (0 < refused)) }
-{
-    if refused == 0 {
-        Ok(())
-    } else {
-        Err(Fault::Refused(refused))
-    }
-}
-
 // The summary of the file of this name.
 fn sum_up_file<'a, F: NamedFiles + AllocGlobal>(
     files: &F,
@@ -145,10 +128,7 @@ fn sum_up_file<'a, F: NamedFiles + AllocGlobal>(
     ensures { SumsUpNamed (F.held files.now name.now) name.entry result }
 {
     let mut file = open_regular(files, name)?;
-    match sum_up_input(files.alloc(), &mut file, MOST_BYTES) {
-        Ok(summary) => Ok(summary),
-        Err(fault) => Err(fault_of_report(name, fault)),
-    }
+    reported(name, sum_up_input(files.alloc(), &mut file, MOST_BYTES))
 }
 
 // Opens the file of this name, if it is a regular file: anything else, such as a named pipe, might be waited for without end.
@@ -178,9 +158,7 @@ fn print_found<O: Write>(
         Ok(summary) if json => print_object(name, Ok(*summary), out),
         Ok(summary) => print_named(alloc, "", name, &SummaryLine(*summary), out),
         Err(fault) => {
-            let Ok(text) = format!(in alloc; "{fault}") else {
-                return Err(Fault::NoMemory);
-            };
+            let text = format!(in alloc; "{fault}")?;
             if json {
                 print_object(name, Err(text.as_str()), out)
             } else {
@@ -199,10 +177,7 @@ fn print_object<O: Write>(
         (checked_json name.now found.entry) }
     ensures fault { IfErr result IsStopped }
 {
-    match print_checked(name, found, out) {
-        Ok(()) => Ok(()),
-        Err(_) => Err(Fault::Write("-")),
-    }
+    print_checked(name, found, out).map_err(|_| Fault::Write("-"))
 }
 
 // Adds the lines of one file to the table. Returns whether it was read.
@@ -214,12 +189,11 @@ fn add_table<F: NamedFiles + AllocGlobal, O: Write, E: Write>(
     err: &mut E,
 ) -> Result<bool, Fault<'static>>
     requires { length layout.now.fields.now ≤ 128 }
-    ensures lines { AddsTable layout.now (F.held files.now name.now) name.now (O.contents out.old) (O.contents out.new) result }
+    ensures lines { AddsTable layout.now (F.held files.now name.now) name.now
+        (O.contents out.old) (O.contents out.new) result }
     ensures fault { IfErr result IsStopped }
 {
-    let Ok(front) = first_cell(files.alloc(), name) else {
-        return Err(Fault::NoMemory);
-    };
+    let front = first_cell(files.alloc(), name)?;
     let mut file = match open_regular(files, name) {
         Ok(file) => file,
         Err(fault) => {
@@ -276,13 +250,9 @@ fn print_named<L: Display, O: Write>(
         (named_line front.now name.now text)) }
     ensures fault { IfErr result IsStopped }
 {
-    let Ok(text) = format!(in alloc; "{front}{}: {line}\n", ShownWord(name)) else {
-        return Err(Fault::NoMemory);
-    };
-    match out.put(text.as_str().as_bytes()) {
-        Ok(()) => Ok(()),
-        Err(_) => Err(Fault::Write("-")),
-    }
+    let text = format!(in alloc; "{front}{}: {line}\n", ShownWord(name))?;
+    let done = out.put(text.as_str().as_bytes());
+    done.map_err(|_| Fault::Write("-"))
 }
 
 // All names, with those that standard input lists in the place of the first `-`.
@@ -299,10 +269,7 @@ fn all_names<F: NamedFiles + AllocGlobal>(
         let mut from = files.standard_input();
         listed = read_input(files.alloc(), "-", &mut from)?;
     }
-    match names_with(files.alloc(), names, listed.as_slice()) {
-        Ok(all) => Ok(all),
-        Err(AllocError) => Err(Fault::NoMemory),
-    }
+    Ok(names_with(files.alloc(), names, listed.as_slice())?)
 }
 
 fn names_with(

@@ -1,11 +1,15 @@
 // The faults of the program.
 
+ghost use Rattle.std.specs.Prelude.{◌≡◌, ◌<◌, IfErr, OnOk};
+ghost use Rattle.fit_commands.specs.declared.fault.Fault.TheVariants.{NoMemory, Refused};
+
 use fit_activity::ActivityFault;
 use fit_grammar::{FileFault, PlainFault};
 use fit_recorder::RecFault;
 use fit_recordings::Lack;
 use fit_scripts::ScriptFault;
 use fit_words::ShownWord;
+use std::alloc::AllocError;
 use thiserror::Error;
 
 /// A fault of the program. Its text follows `fitrec: ` on standard error.
@@ -87,4 +91,24 @@ pub enum Fault<'a> {
     /// The number of replies to a script that were not ok.
     #[error("{0} refused")]
     Refused(usize),
+}
+
+impl From<AllocError> for Fault<'_> {
+    ghost from_gives = { λ _ fault. fault ≡ NoMemory };
+
+    fn from(_: AllocError) -> Self {
+        Fault::NoMemory
+    }
+}
+
+/// The fault if so many were refused, unless none was.
+pub(crate) fn none_refused(refused: usize) -> Result<(), Fault<'static>>
+    ensures none { OnOk result (refused ≡ 0) }
+    ensures number { IfErr result (λ fault. (fault ≡ Refused refused) × (0 < refused)) }
+{
+    if refused == 0 {
+        Ok(())
+    } else {
+        Err(Fault::Refused(refused))
+    }
 }

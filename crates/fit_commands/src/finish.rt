@@ -13,7 +13,7 @@ use fit_finishing::{FinishFault, Finishing};
 use fit_grammar::File;
 
 /// The file with the messages that it lacks.
-pub(crate) fn finish_file<'a>(file: File) -> Result<FinishedFile, Fault<'a>>
+pub(crate) fn finish_file(file: File) -> Result<FinishedFile, Fault<'static>>
     ensures finished { IfOk result (λ finished. (finished.file ≡ file)
         × IsFinishing file finished.finishing) }
     ensures reported { IfErr result IsNotFinishedReported }
@@ -36,7 +36,7 @@ pub(crate) fn heard_in(finishing: &Finishing) -> Heard
 }
 
 // The program's fault for an activity that is not finished.
-fn fault_of<'a>(fault: FinishFault) -> Fault<'a>
+fn fault_of(fault: FinishFault) -> Fault<'static>
     ensures value { result ≡ fault_of_finish fault }
     ensures reported { IsNotFinishedReported result }
 {

@@ -1,20 +1,19 @@
 // Opens and reads the files in the folder of a recording.
 
-ghost use Rattle.std.specs.Prelude.{◌≡◌, IfErr, IfOk, IfSome};
+ghost use Rattle.std.specs.Prelude.{◌≡◌, IfErr, IfOk};
 ghost use Rattle.fit_disk.specs.Files.{witness_of};
 ghost use Rattle.fit_disk.specs.declared.files.OpenFault.{OpenFault as WhyNotOpen};
-ghost use Rattle.fit_commands.specs.Faults.{fault_of_open, IsReadReported, IsLackReported};
+ghost use Rattle.fit_commands.specs.Faults.{fault_of_open, IsOpenReported, IsReadReported, IsLackReported};
 ghost use Rattle.fit_commands.specs.Reading.{IsRead, IsReadFront};
 
 use crate::fault::Fault;
 use crate::input::{read_input, read_input_front};
-use fit_disk::{DATA_NAME, Files, JOURNAL_NAME, OpenFault, Witness, is_one_missing, open_to_read};
+use fit_disk::{DATA_NAME, Files, JOURNAL_NAME, OpenFault, Witness, is_one_missing};
 use fit_files::FrontRead;
 use fit_places::NamedFiles;
 use fit_recorder::RecFault;
 use fit_recordings::Lack;
 use std::alloc::Global;
-use std::fs::File;
 use std::io::Read;
 
 /// Opens the files of this folder under a witness, and creates those that are missing.
@@ -27,27 +26,22 @@ pub fn open_folder<'a, W: Witness>(
     ensures fault { IfErr result (λ fault. (why : WhyNotOpen)
         × (fault ≡ fault_of_open name.entry why)) }
 {
-    match Files::open(rt, name, witness) {
-        Ok(files) => Ok(files),
-        Err(fault) => Err(fault_of(name, fault)),
-    }
+    Files::open(rt, name, witness).map_err(|fault| fault_of_open(name, fault))
 }
 
-/// Opens the files of this folder under a witness. Returns `None` if one of them is missing.
+/// Opens the files of this folder under a witness. If one of them is missing, the fault is `NothingRecorded`.
 pub fn open_recorded<'a, W: Witness>(
     rt: &HostRuntime,
     name: &'a str,
     witness: W,
-) -> Result<Option<Files<W>>, Fault<'a>>
-    ensures witness { IfOk result (λ files. IfSome files (λ files. witness_of files ≡ witness)) }
-    ensures fault { IfErr result (λ fault. (why : WhyNotOpen)
-        × (fault ≡ fault_of_open name.entry why)) }
+) -> Result<Files<W>, Fault<'a>>
+    ensures witness { IfOk result (λ files. witness_of files ≡ witness) }
+    ensures fault { IfErr result (IsOpenReported name.entry) }
 {
-    match is_one_missing(rt, name) {
-        Ok(true) => Ok(None),
-        Ok(false) => Ok(Some(open_folder(rt, name, witness)?)),
-        Err(fault) => Err(fault_of(name, fault)),
+    if is_one_missing(rt, name).map_err(|fault| fault_of_open(name, fault))? {
+        return Err(Fault::Recorder(RecFault::NothingRecorded));
     }
+    open_folder(rt, name, witness)
 }
 
 /// Reads the journal of this folder, and what can be read of its data file. Nothing is written. If one of them is missing, the fault says
@@ -63,7 +57,7 @@ pub fn read_recorded<'a, F: NamedFiles + AllocGlobal>(
 {
     let (data_file, journal_file) = match files.open_recorded(name) {
         Ok(found) => found,
-        Err(fault) => return Err(fault_of(name, fault)),
+        Err(fault) => return Err(fault_of_open(name, fault)),
     };
     match (data_file, journal_file) {
         (Some(data_file), Some(journal_file)) => read_files(files.alloc(), data_file, journal_file),
@@ -87,21 +81,8 @@ fn read_files<T: Read + Drop>(
     Ok((read, journal_bytes))
 }
 
-/// Opens the files of this folder for reading only, those of them that are there.
-pub fn open_files<'a>(
-    rt: &HostRuntime,
-    name: &'a str,
-) -> Result<(Option<File>, Option<File>), Fault<'a>>
-    ensures { IfErr result (λ fault. (why : WhyNotOpen) × (fault ≡ fault_of_open name.entry why)) }
-{
-    match open_to_read(rt, name) {
-        Ok(files) => Ok(files),
-        Err(fault) => Err(fault_of(name, fault)),
-    }
-}
-
-// The program's fault for a folder of this name that was not opened.
-fn fault_of<'a>(name: &'a str, fault: OpenFault) -> Fault<'a>
+/// The program's fault for a folder of this name that was not opened.
+pub(crate) fn fault_of_open<'a>(name: &'a str, fault: OpenFault) -> Fault<'a>
     ensures { result ≡ fault_of_open name.entry fault }
 {
     match fault {

@@ -2,7 +2,7 @@
 
 ghost use Rattle.std.specs.Io.KnownBytes.{Appends};
 ghost use Rattle.std.specs.Prelude.{◌≡◌, ◌<◌, ◌↔◌, None, IsTrue, IfOk, IfErr, IfSome, OnOk};
-ghost use Rattle.fit_commands.specs.Faults.{IsReportFault};
+ghost use Rattle.fit_commands.specs.Faults.{AnswersReport, IsReportFault};
 ghost use Rattle.fit_commands.specs.Reading.{fault_of_read, end_text, IsRead, IsReadFault, IsReadFront, IsFileFault};
 
 use crate::fault::Fault;
@@ -20,9 +20,7 @@ pub fn open_file<'a, F: NamedFiles>(files: &F, name: &'a str) -> Result<F::File,
     ensures held { IfOk result (λ file. F.File.remaining file ≡ F.held files.now name.now) }
     ensures fault { IfErr result (IsFileFault name.entry) }
 {
-    let Ok(file) = files.open(name) else {
-        return Err(Fault::Open(name));
-    };
+    let file = files.open(name).map_err(|_| Fault::Open(name))?;
     if is_too_large(files.size(&file)) {
         return Err(Fault::TooLarge);
     }
@@ -37,10 +35,8 @@ pub fn read_file<'a, F: NamedFiles + AllocGlobal>(
     ensures read { IfOk result (λ bytes. IsRead (F.held files.now name.now) bytes.items) }
     ensures fault { IfErr result (IsFileFault name.entry) }
 {
-    match open_file(files, name) {
-        Ok(mut file) => read_input(files.alloc(), name, &mut file),
-        Err(fault) => Err(fault),
-    }
+    let mut file = open_file(files, name)?;
+    read_input(files.alloc(), name, &mut file)
 }
 
 fn is_too_large(size: u64) -> bool
@@ -59,10 +55,7 @@ pub fn read_input<'a, T: Read>(
     ensures refused { IfErr result
         (IsReadFault 268435456 (T.remaining from.old) (T.remaining from.new) name.entry) }
 {
-    match read_all(alloc, from, MOST_BYTES) {
-        Ok(bytes) => Ok(bytes),
-        Err(fault) => Err(fault_of(name, fault)),
-    }
+    read_all(alloc, from, MOST_BYTES).map_err(|fault| fault_of(name, fault))
 }
 
 /// Reads what can be read of the input of this name: its bytes up to its end, or to the first read that fails.
@@ -75,10 +68,7 @@ pub fn read_input_front<'a, T: Read>(
     ensures refused { IfErr result
         (IsReadFault 268435456 (T.remaining from.old) (T.remaining from.new) name.entry) }
 {
-    match read_front(alloc, from, MOST_BYTES) {
-        Ok(read) => Ok(read),
-        Err(fault) => Err(fault_of(name, fault)),
-    }
+    read_front(alloc, from, MOST_BYTES).map_err(|fault| fault_of(name, fault))
 }
 
 /// The same of the file of this name.
@@ -89,10 +79,8 @@ pub fn read_file_front<'a, F: NamedFiles + AllocGlobal>(
     ensures read { IfOk result (IsReadFront (F.held files.now name.now)) }
     ensures fault { IfErr result (IsFileFault name.entry) }
 {
-    match open_file(files, name) {
-        Ok(mut file) => read_input_front(files.alloc(), name, &mut file),
-        Err(fault) => Err(fault),
-    }
+    let mut file = open_file(files, name)?;
+    read_input_front(files.alloc(), name, &mut file)
 }
 
 /// Prints that the input of this name could not be read from a byte on, if there is such a byte.
@@ -109,6 +97,13 @@ pub fn print_end<E: Write>(name: &str, unread_from: Option<usize>, err: &mut E) 
         ),
         None => Ok(()),
     }
+}
+
+/// The program's result for that of an input of this name, which was read, checked, printed or made plain.
+pub fn reported<'a, T>(name: &'a str, done: Result<T, ReportFault>) -> Result<T, Fault<'a>>
+    ensures { AnswersReport name.entry done result }
+{
+    done.map_err(|fault| fault_of_report(name, fault))
 }
 
 /// The program's fault for an input of this name that was not read, checked, printed or made plain.

@@ -8,7 +8,7 @@ ghost use Rattle.fit_grammar.specs.Format.Records.{data_size};
 ghost use Rattle.fit_grammar.specs.Calls.PlainForm.{IsPlain};
 ghost use Rattle.fit_joining.specs.Joined.{joined_messages};
 ghost use Rattle.fit_joining.specs.JoinedItems.{joined_file};
-ghost use Rattle.fit_commands.specs.Reported.{IsFormOfFile};
+ghost use Rattle.fit_commands.specs.Reported.{IsFormOfFile, transition_of};
 ghost use Rattle.fit_commands.specs.Written.{WritesRun};
 ghost use Rattle.fit_commands.specs.JoinedFile.{AddsFile, AreFilesOf, AreNoParts, AreNotPut, ArePut, IsJoinedFile, IsJoinedOut, IsNoPart, IsNotJoined, IsNotWrittenOut, JoinsNamed, part_lent, fault_of_misfit};
 
@@ -37,8 +37,8 @@ pub fn join_parts<'a, F: NamedFiles + AllocGlobal, O: Write>(
     to: &'a str,
     out: &mut O,
 ) -> Result<(), Fault<'a>>
-    ensures { WritesRun (JoinsNamed as_given (F.held files.old) (first.entry ∷ others.now)) IsJoinedOut to.entry
-        (F.held files.old) (F.held files.new) (O.contents out.old) (O.contents out.new) result }
+    ensures { WritesRun (JoinsNamed as_given (F.held files.old) (first.entry ∷ others.now))
+        IsJoinedOut to.entry (transition_of F.held files.old files.new O.contents out.old out.new) result }
 {
     let joined = joined_of(files, first, others, as_given)?;
     let count = count_messages(&joined);
@@ -110,10 +110,8 @@ fn bytes_of<'a>(
 {
     let size = size_of_records(alloc, first, others)?;
     let mut bytes = Vec::new(alloc);
-    match write_joined(first, others, size, &mut bytes) {
-        Ok(()) => Ok(bytes),
-        Err(_) => Err(Fault::NoMemory),
-    }
+    write_joined(first, others, size, &mut bytes).map_err(|_| Fault::NoMemory)?;
+    Ok(bytes)
 }
 
 // How many bytes its records have.
@@ -145,9 +143,7 @@ fn put_parts<'a>(as_given: bool, parts: &mut Vec<Part<'a, '_>>) -> Result<(), Fa
     if as_given {
         return Ok(());
     }
-    let Ok(()) = put_in_order(parts) else {
-        return Err(Fault::NoMemory);
-    };
+    put_in_order(parts)?;
     match first_misfit(parts.as_slice()) {
         None => Ok(()),
         Some(misfit) => Err(fault_of_misfit(misfit)),
@@ -208,10 +204,8 @@ fn add_file<'a, F: NamedFiles + AllocGlobal>(
     ensures reported { IfErr result (AreNoParts (F.held files.now) (name.entry ∷ [])) }
 {
     let file = part_of(files, name)?;
-    match named.push(NamedFile { name, file }) {
-        Ok(()) => Ok(()),
-        Err(_) => Err(Fault::NoMemory),
-    }
+    let pushed = named.push(NamedFile { name, file });
+    pushed.map_err(|_| Fault::NoMemory)
 }
 
 // The plain form of the file of this name.

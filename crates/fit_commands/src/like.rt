@@ -5,7 +5,7 @@ ghost use Rattle.std.specs.Prelude.{◌≡◌, ◌≤◌, List, length, IfOk, If
 ghost use Rattle.fit_grammar.specs.Format.Item.{Item};
 ghost use Rattle.fit_grammar.specs.Format.Records.{Records};
 ghost use Rattle.fit_commands.specs.Faults.{IsNoLike, IsOutputReported};
-ghost use Rattle.fit_commands.specs.Reported.{IsLike, count_text, known_row as known_row_of, like_name, like_text};
+ghost use Rattle.fit_commands.specs.Reported.{IsLike, known_row as known_row_of, like_name, like_text};
 
 use crate::fault::Fault;
 use crate::input::read_file;
@@ -13,7 +13,7 @@ use fit_grammar::FaultKind;
 use fit_mending::{Known, known_by};
 use fit_places::NamedFiles;
 use fit_words::{SalvageForm, ShownWord};
-use std::io::{self, Write};
+use std::io::Write;
 
 /// A file whose definitions are known before the bytes of another.
 #[derive(Drop)]
@@ -65,16 +65,7 @@ pub(crate) fn print_like<O: Write>(
     let Some(like) = like else {
         return Ok(());
     };
-    match print_count(like.name, like.known.count, out) {
-        Ok(()) => Ok(()),
-        Err(_) => Err(Fault::Write("-")),
-    }
-}
-
-// Prints how many definitions are those of the file of this name.
-fn print_count<O: Write>(name: &str, count: usize, out: &mut O) -> io::Result<()>
-    ensures { OnOk result
-        (Appends (O.contents out.old) (O.contents out.new) (count_text name.now count)) }
-{
-    writeln!(out, "definitions from {}: {count}", ShownWord(name))
+    let count = like.known.count;
+    let done = writeln!(out, "definitions from {}: {count}", ShownWord(like.name));
+    done.map_err(|_| Fault::Write("-"))
 }

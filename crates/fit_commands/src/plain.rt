@@ -1,11 +1,11 @@
 // The subcommand `plain`: a file with the same messages, and each compressed timestamp written out.
 
-ghost use Rattle.fit_commands.specs.Reported.{FormsNamed};
+ghost use Rattle.fit_commands.specs.Reported.{FormsNamed, transition_of};
 ghost use Rattle.fit_commands.specs.Written.{IsCounted, WritesRun};
 
 use crate::beside::write_counted;
 use crate::fault::Fault;
-use crate::input::{MOST_BYTES, fault_of_report, open_file};
+use crate::input::{MOST_BYTES, open_file, reported};
 use fit_files::{count_messages, plain_input};
 use fit_grammar::File;
 use fit_places::NamedFiles;
@@ -20,7 +20,7 @@ pub fn make_plain<'a, F: NamedFiles + AllocGlobal, O: Write>(
     out: &mut O,
 ) -> Result<(), Fault<'a>>
     ensures { WritesRun (FormsNamed (F.held files.old name.now) name.entry) IsCounted to.entry
-        (F.held files.old) (F.held files.new) (O.contents out.old) (O.contents out.new) result }
+        (transition_of F.held files.old files.new O.contents out.old out.new) result }
 {
     let plain = plain_of(files, name)?;
     write_counted(files, to, &plain, count_messages(&plain), out)
@@ -34,8 +34,5 @@ pub(crate) fn plain_of<'a, F: NamedFiles + AllocGlobal>(
     ensures { FormsNamed (F.held files.now name.now) name.entry result }
 {
     let mut file = open_file(files, name)?;
-    match plain_input(files.alloc(), &mut file, MOST_BYTES) {
-        Ok(plain) => Ok(plain),
-        Err(fault) => Err(fault_of_report(name, fault)),
-    }
+    reported(name, plain_input(files.alloc(), &mut file, MOST_BYTES))
 }

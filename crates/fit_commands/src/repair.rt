@@ -12,9 +12,9 @@ ghost use Rattle.fit_commands.specs.Faults.{AnswersRepair, IsFolderFault, IsOpen
 ghost use Rattle.fit_commands.specs.Reported.{ReadsBoth, ReportsRepair, PrintsSummary, PrintsNothing, VerifiesFolder};
 
 use crate::fault::Fault;
-use crate::folder::{open_files, open_recorded};
+use crate::folder::{fault_of_open, open_recorded};
 use crate::input::read_input;
-use fit_disk::{DATA_NAME, JOURNAL_NAME, Shadow, Trusting, Witness};
+use fit_disk::{DATA_NAME, JOURNAL_NAME, Shadow, Trusting, Witness, open_to_read};
 use fit_recorder::RecFault;
 use fit_recordings::{FileSums, RepairFault, repair, repair_and_read};
 use std::io::{Read, Write};
@@ -53,9 +53,7 @@ pub fn repair_files<'a, W: Witness, O: Write>(
     ensures reported { IfErr result (IsOpenReported name.entry) }
     ensures quiet { IfErr result (λ _. O.contents out.new ≡ O.contents out.old) }
 {
-    let Some(mut files) = open_recorded(rt, name, witness)? else {
-        return Err(Fault::Recorder(RecFault::NothingRecorded));
-    };
+    let mut files = open_recorded(rt, name, witness)?;
     let repaired = repair(&mut files, out);
     Ok((files.into_witness(), repaired))
 }
@@ -71,7 +69,8 @@ pub fn verify_folder<'a, O: Write>(
     ensures { VerifiesFolder name.entry (ReadsBoth None None) (O.contents out.old)
         (O.contents out.new) result }
 {
-    let (Some(data_file), Some(journal_file)) = open_files(rt, name)? else {
+    let opened = open_to_read(rt, name).map_err(|fault| fault_of_open(name, fault))?;
+    let (Some(data_file), Some(journal_file)) = opened else {
         return Err(Fault::Recorder(RecFault::NothingRecorded));
     };
     verify_read(rt, name, data_file, journal_file, out)
@@ -121,12 +120,8 @@ pub fn repair_holding<'a, O: Write>(
     ensures reported { IfErr result (IsOpenReported name.entry) }
     ensures quiet { IfErr result (λ _. O.contents out.new ≡ O.contents out.old) }
 {
-    let Ok(shadow) = Shadow::holding(rt.alloc(), in_data, in_journal) else {
-        return Err(Fault::NoMemory);
-    };
-    let Some(mut files) = open_recorded(rt, name, shadow)? else {
-        return Err(Fault::Recorder(RecFault::NothingRecorded));
-    };
+    let shadow = Shadow::holding(rt.alloc(), in_data, in_journal)?;
+    let mut files = open_recorded(rt, name, shadow)?;
     let repaired = repair_and_read(&mut files, out);
     Ok((files.into_witness(), repaired))
 }

@@ -11,9 +11,9 @@ ghost use Rattle.fit_commands.specs.Faults.{fault_of_open};
 ghost use Rattle.fit_commands.specs.Scripts.Faults.{fault_of_replay, IsScriptReported, IsReplayReported};
 ghost use Rattle.fit_commands.specs.Scripts.Reported.{IsScriptOf, Replays, PrintsNoLine};
 
-use crate::fault::Fault;
+use crate::fault::{Fault, none_refused};
 use crate::folder::open_folder;
-use crate::input::{fault_of_report, read_file};
+use crate::input::{read_file, reported};
 use fit_disk::{Trusting, Witness};
 use fit_files::ReportFault;
 use fit_histories::Event;
@@ -34,18 +34,15 @@ pub fn replay_script<'a, F: NamedFiles + AllocGlobal, O: Write>(
     out: &mut O,
 ) -> Result<(), Fault<'a>>
     ensures reported { IfErr result (IsReplayReported script.entry folder.entry) }
-    ensures done { OnOk result (Replays (F.held files.now script.now) (O.contents out.old) (O.contents out.new) 0) }
+    ensures done { OnOk result
+        (Replays (F.held files.now script.now) (O.contents out.old) (O.contents out.new) 0) }
     ensures refused { (count : ℕ) → result ≡ Err (Refused count)
         → Replays (F.held files.now script.now) (O.contents out.old) (O.contents out.new) count }
     ensures quiet { IfErr result (PrintsNoLine (O.contents out.old) (O.contents out.new)) }
 {
     let events = events_of(files, script)?;
     let (_, played) = replay_files(rt, folder, Trusting, events.as_slice(), checked, out)?;
-    match played {
-        Ok(0) => Ok(()),
-        Ok(refused) => Err(Fault::Refused(refused)),
-        Err(fault) => Err(fault_of_report(script, fault)),
-    }
+    none_refused(reported(script, played)?)
 }
 
 /// Runs the events over the files of this folder under any witness. Returns the witness, and the number of replies that were not ok.
@@ -86,10 +83,7 @@ fn events_of<'a, F: NamedFiles + AllocGlobal>(
     ensures reported { IfErr result (IsScriptReported name.entry) }
 {
     let bytes = read_file(files, name)?;
-    match read_script(files.alloc(), bytes.as_slice()) {
-        Ok(events) => Ok(events),
-        Err(fault) => Err(fault_of(name, fault)),
-    }
+    read_script(files.alloc(), bytes.as_slice()).map_err(|fault| fault_of(name, fault))
 }
 
 // The program's fault for a script of this name that cannot be replayed.

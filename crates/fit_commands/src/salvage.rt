@@ -4,13 +4,13 @@ ghost use Rattle.std.specs.Prelude.{◌≤◌, Bool, List, length, IfOk, IfErr, 
 ghost use Rattle.fit_grammar.specs.Format.Item.{Item};
 ghost use Rattle.fit_grammar.specs.Format.Records.{Records};
 ghost use Rattle.fit_commands.specs.Faults.{IsNoFormReported, IsNothingKept, IsOfWhole};
-ghost use Rattle.fit_commands.specs.Reported.{IsFormOf, IsKeptOf, IsSalvagedOut, SalvagesNamed};
+ghost use Rattle.fit_commands.specs.Reported.{IsFormOf, IsKeptOf, IsSalvagedOut, SalvagesNamed, transition_of};
 ghost use Rattle.fit_commands.specs.Written.{WritesForm, WritesRun};
 
 use crate::beside::write_whole;
 use crate::fault::Fault;
 use crate::finish::{finish_file, heard_in};
-use crate::input::{fault_of_report, print_end, read_file_front};
+use crate::input::{print_end, read_file_front, reported};
 use crate::like::{known_row, like_of, print_like};
 use fit_files::{FrontRead, Heard, Kept, Salvage, salvage_bytes, skip_bytes};
 use fit_grammar::{File, FileFault, read_header_front};
@@ -36,7 +36,7 @@ pub fn salvage_file<'a, F: NamedFiles + AllocGlobal, O: Write, E: Write>(
     err: &mut E,
 ) -> Result<(), Fault<'a>>
     ensures { WritesRun (SalvagesNamed form.now (F.held files.old) name.entry) IsSalvagedOut to.entry
-        (F.held files.old) (F.held files.new) (O.contents out.old) (O.contents out.new) result }
+        (transition_of F.held files.old files.new O.contents out.old out.new) result }
 {
     let like = like_of(files, form)?;
     let read = read_file_front(files, name)?;
@@ -48,10 +48,7 @@ pub fn salvage_file<'a, F: NamedFiles + AllocGlobal, O: Write, E: Write>(
     if is_always_said {
         print_unread(name, &read, &salvage, err);
     }
-    match kept.print(heard, out) {
-        Ok(()) => {}
-        Err(fault) => return Err(fault_of_report(name, fault)),
-    }
+    reported(name, kept.print(heard, out))?;
     if !is_always_said {
         print_unread(name, &read, &salvage, err);
     }
@@ -80,9 +77,7 @@ fn kept_of<'a, 'b>(
             Err(fault) => Err(fault_of(name, read, fault)),
         };
     }
-    let Ok(mended) = skip_bytes(alloc, known, bytes, form.all) else {
-        return Err(Fault::NoMemory);
-    };
+    let mended = skip_bytes(alloc, known, bytes, form.all)?;
     match read_header_front(bytes) {
         Err(fault) if mended.is_empty() => Err(fault_of(name, read, fault)),
         _ => Ok(Kept::Pieces(mended)),
@@ -140,10 +135,7 @@ fn form_of<'a>(
     } else {
         salvage.file(alloc)
     };
-    match made {
-        Ok(file) => Ok(file),
-        Err(fault) => Err(fault_of_report(name, fault)),
-    }
+    reported(name, made)
 }
 
 // Prints what was not read of the file `name`, and what was not looked at.

@@ -2,13 +2,13 @@
 
 ghost use Rattle.std.specs.Prelude.{◌≡◌, IfErr, IfOk};
 ghost use Rattle.fit_commands.specs.Faults.{IsRideReported};
-ghost use Rattle.fit_commands.specs.Reported.{AreCounted, IsSavedOut, IsSavedRide, SavesNamed};
+ghost use Rattle.fit_commands.specs.Reported.{AreCounted, IsSavedOut, IsSavedRide, SavesNamed, transition_of};
 ghost use Rattle.fit_commands.specs.Written.{WritesRun};
 
 use crate::beside::write_whole;
 use crate::fault::Fault;
 use crate::folder::read_recorded;
-use crate::input::{fault_of_report, print_end};
+use crate::input::{print_end, reported};
 use fit_disk::DATA_NAME;
 use fit_files::{FrontRead, print_summary};
 use fit_places::NamedFiles;
@@ -29,8 +29,9 @@ pub fn save_folder<'a, F: NamedFiles + AllocGlobal, O: Write, E: Write>(
     out: &mut O,
     err: &mut E,
 ) -> Result<(), Fault<'a>>
-    ensures { WritesRun (SavesNamed earlier (F.held_data files.old name.now) (F.held_journal files.old name.now) name.entry)
-        IsSavedOut to.entry (F.held files.old) (F.held files.new) (O.contents out.old) (O.contents out.new) result }
+    ensures { WritesRun
+        (SavesNamed earlier (F.held_data files.old name.now) (F.held_journal files.old name.now) name.entry)
+        IsSavedOut to.entry (transition_of F.held files.old files.new O.contents out.old out.new) result }
 {
     if name.is_empty() {
         return Err(Fault::Open(name));
@@ -42,10 +43,7 @@ pub fn save_folder<'a, F: NamedFiles + AllocGlobal, O: Write, E: Write>(
     let (saved, left) = saved_of(files.alloc(), read, journal_bytes, earlier)?;
     write_whole(files, to, &saved.file)?;
     print_left(left, err);
-    match print_summary(saved.summary, out) {
-        Ok(()) => Ok(()),
-        Err(fault) => Err(fault_of_report(name, fault)),
-    }
+    reported(name, print_summary(saved.summary, out))
 }
 
 // What of a recording is not in the ride that was saved.

@@ -1,6 +1,7 @@
 // The subcommand `shift`: a file with the same messages, and every time in them moved.
 
 ghost use Rattle.std.specs.Prelude.{◌≡◌};
+ghost use Rattle.fit_commands.specs.Reported.{transition_of};
 ghost use Rattle.fit_commands.specs.Shifted.{fault_of_shift, ShiftsNamed};
 ghost use Rattle.fit_commands.specs.Written.{IsCounted, WritesRun};
 
@@ -29,19 +30,13 @@ pub enum NotShift<'a> {
 
 /// How the words say that times are moved.
 pub fn shift_by<'a>(form: &ShiftForm<'a>) -> Result<ShiftBy, NotShift<'a>> {
-    match form.start {
-        Some(word) => match time_in(word) {
-            Some(time) => Ok(ShiftBy::Start(time)),
-            None => Err(NotShift::Start(word)),
-        },
-        None => {
-            let word = form.by.unwrap_or("");
-            match shift_in(word) {
-                Some(shift) => Ok(ShiftBy::Seconds(shift)),
-                None => Err(NotShift::By(word)),
-            }
-        }
+    if let Some(word) = form.start {
+        let time = time_in(word).ok_or(NotShift::Start(word))?;
+        return Ok(ShiftBy::Start(time));
     }
+    let word = form.by.unwrap_or("");
+    let shift = shift_in(word).ok_or(NotShift::By(word))?;
+    Ok(ShiftBy::Seconds(shift))
 }
 
 // The shift by the seconds of this word, which may have a sign.
@@ -85,7 +80,7 @@ pub fn make_shifted<'a, F: NamedFiles + AllocGlobal, O: Write>(
     out: &mut O,
 ) -> Result<(), Fault<'a>>
     ensures { WritesRun (ShiftsNamed by (F.held files.old name.now) name.entry) IsCounted to.entry
-        (F.held files.old) (F.held files.new) (O.contents out.old) (O.contents out.new) result }
+        (transition_of F.held files.old files.new O.contents out.old out.new) result }
 {
     let shifted = shifted_of(files, name, by)?;
     write_counted(files, to, &shifted, count_messages(&shifted), out)
@@ -100,14 +95,11 @@ fn shifted_of<'a, F: NamedFiles + AllocGlobal>(
     ensures { ShiftsNamed by (F.held files.now name.now) name.entry result }
 {
     let bytes = read_file(files, name)?;
-    match shift_bytes(files.alloc(), by, bytes.as_slice()) {
-        Ok(shifted) => Ok(shifted),
-        Err(fault) => Err(fault_of(fault)),
-    }
+    shift_bytes(files.alloc(), by, bytes.as_slice()).map_err(fault_of)
 }
 
 // The program's fault for a file whose times are not moved.
-fn fault_of<'a>(fault: ShiftFault) -> Fault<'a>
+fn fault_of(fault: ShiftFault) -> Fault<'static>
     ensures { result ≡ fault_of_shift fault }
 {
     match fault {

@@ -5,7 +5,7 @@ ghost use Rattle.fit_commands.specs.Faults.{IsReportFault};
 ghost use Rattle.fit_commands.specs.Reported.{ReportsRun};
 
 use crate::fault::Fault;
-use crate::input::{MOST_BYTES, fault_of_report, open_file};
+use crate::input::{MOST_BYTES, open_file, reported};
 use fit_files::show_input;
 use fit_places::NamedFiles;
 use std::io::Write;
@@ -22,8 +22,6 @@ pub fn show_file<'a, F: NamedFiles + AllocGlobal, O: Write>(
         (ShowsBytes utc (O.contents out.old) (O.contents out.new)) result }
 {
     let mut file = open_file(files, name)?;
-    match show_input(files.alloc(), &mut file, MOST_BYTES, utc, out) {
-        Ok(()) => Ok(()),
-        Err(fault) => Err(fault_of_report(name, fault)),
-    }
+    let shown = show_input(files.alloc(), &mut file, MOST_BYTES, utc, out);
+    reported(name, shown)
 }

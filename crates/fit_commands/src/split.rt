@@ -3,7 +3,7 @@
 ghost use Rattle.std.specs.Prelude.{IfOk, IfErr, OnOk};
 ghost use Rattle.fit_places.specs.NamedFiles.{ReplacesNamed};
 ghost use Rattle.fit_commands.specs.Faults.{IsNotFound, IsNotWritten, IsPartReported};
-ghost use Rattle.fit_commands.specs.Reported.{AreNotTooMany, AreParts, PrintsLines, SplitsFile, WritesParts, part_name};
+ghost use Rattle.fit_commands.specs.Reported.{AreNotTooMany, AreParts, PrintsLines, SplitsFile, WritesParts, part_name, transition_of};
 
 use crate::beside::write_whole;
 use crate::content::Content;
@@ -30,8 +30,8 @@ pub fn split_file<'a, F: NamedFiles + AllocGlobal, O: Write>(
     all: bool,
     out: &mut O,
 ) -> Result<(), Fault<'a>>
-    ensures { SplitsFile all name.entry to.entry (F.held files.old) (F.held files.new)
-        (O.contents out.old) (O.contents out.new) result }
+    ensures { SplitsFile all name.entry to.entry
+        (transition_of F.held files.old files.new O.contents out.old out.new) result }
 {
     let bytes = read_file(files, name)?;
     if to.is_empty() {
@@ -57,9 +57,7 @@ fn parts_of(alloc: Global, bytes: &[u8], all: bool) -> Result<Vec<Part<'_>>, Fau
             Err(FindFault::Memory) => Err(Fault::NoMemory),
         };
     }
-    let Ok(parts) = split_files(alloc, bytes) else {
-        return Err(Fault::NoMemory);
-    };
+    let parts = split_files(alloc, bytes)?;
     if parts.len() > MOST_FILES {
         return Err(Fault::TooManyFiles(parts.len()));
     }
@@ -97,10 +95,7 @@ impl Content for Raw<'_> {
     ghost bytes = { λ raw. raw.0.now };
 
     fn write_to<W: Write>(&self, out: &mut W) -> Result<(), EncodeFault> {
-        match out.put(self.0) {
-            Ok(()) => Ok(()),
-            Err(_) => Err(EncodeFault::Write),
-        }
+        out.put(self.0).map_err(|_| EncodeFault::Write)
     }
 }
 
@@ -114,9 +109,7 @@ fn write_part<'a, F: NamedFiles + AllocGlobal>(
         (F.held files.old) (F.held files.new)) }
     ensures fault { IfErr result (IsNotWritten folder.entry) }
 {
-    let Ok(name) = format!(in files.alloc(); "{folder}/{}.fit", part.number) else {
-        return Err(Fault::NoMemory);
-    };
+    let name = format!(in files.alloc(); "{folder}/{}.fit", part.number)?;
     match write_whole(files, name.as_str(), &Raw(part.bytes)) {
         Ok(()) => Ok(()),
         Err(Fault::NoMemory) => Err(Fault::NoMemory),

@@ -8,12 +8,12 @@ ghost use Rattle.fit_commands.specs.Reading.{held_or_given};
 ghost use Rattle.fit_commands.specs.Reported.{ReportsRun};
 
 use crate::fault::Fault;
-use crate::input::{MOST_BYTES, fault_of_report, open_file};
+use crate::input::{MOST_BYTES, open_file, reported};
 use fit_files::{Held, table_held_input, table_input};
 use fit_places::NamedFiles;
 use fit_table::Layout;
 use std::alloc::Global;
-use std::io::{self, Read, Write};
+use std::io::{Read, Write};
 
 /// Prints the table of the file of this name, or of standard input if the name is `-`.
 pub fn table_file<'a, F: NamedFiles + AllocGlobal, O: Write>(
@@ -50,10 +50,8 @@ fn table_from<'a, T: Read, O: Write>(
         (IsReportFault name.entry)
         (ShowsTable layout.now None (O.contents out.old) (O.contents out.new)) result }
 {
-    match table_input(alloc, from, MOST_BYTES, layout, None, out) {
-        Ok(()) => Ok(()),
-        Err(fault) => Err(fault_of_report(name, fault)),
-    }
+    let shown = table_input(alloc, from, MOST_BYTES, layout, None, out);
+    reported(name, shown)
 }
 
 /// Prints the table of the file of this name, or of standard input if the name is `-`, with a column for each field that the messages of
@@ -65,14 +63,21 @@ pub fn table_of_all<'a, F: NamedFiles + AllocGlobal, O: Write, E: Write>(
     out: &mut O,
     err: &mut E,
 ) -> Result<(), Fault<'a>>
-    ensures { (held : AnyHeld) × ReportsRun (held_or_given name.now (F.held files.now name.now) (F.given files.now))
+    ensures { (held : AnyHeld)
+        × ReportsRun (held_or_given name.now (F.held files.now name.now) (F.given files.now))
         name.entry (O.contents out.old) (O.contents out.new)
         (IsReportFault name.entry)
         (ShowsHeld layout.now held (O.contents out.old) (O.contents out.new)) result }
 {
     let mut held = Held::new();
     let done = table_held(files, name, layout, &mut held, out);
-    let _ = report_left_out(files.alloc(), held.left_out, err);
+    let count = held.left_out;
+    if count > 0 {
+        let _ = writeln!(
+            err,
+            "fitrec: {count} columns past the first 128 are left out; --fields chooses them",
+        );
+    }
     done
 }
 
@@ -109,21 +114,6 @@ fn table_held_from<'a, T: Read, O: Write>(
         (IsReportFault name.entry)
         (ShowsHeld layout.now held.new (O.contents out.old) (O.contents out.new)) result }
 {
-    match table_held_input(alloc, from, MOST_BYTES, layout, held, out) {
-        Ok(()) => Ok(()),
-        Err(fault) => Err(fault_of_report(name, fault)),
-    }
-}
-
-// Reports how many columns are left out, if any are.
-fn report_left_out<E: Write>(alloc: Global, count: usize, err: &mut E) -> io::Result<()> {
-    if count == 0 {
-        return Ok(());
-    }
-    let Ok(text) = format!(in alloc;
-        "fitrec: {count} columns past the first 128 are left out; --fields chooses them\n"
-    ) else {
-        return Ok(());
-    };
-    err.write_all(text.as_bytes())
+    let shown = table_held_input(alloc, from, MOST_BYTES, layout, held, out);
+    reported(name, shown)
 }

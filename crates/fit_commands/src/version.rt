@@ -10,7 +10,7 @@ use fit_grammar::Sink;
 use std::io::Write;
 
 /// The version, the kit that proved it, and the checksum of the logic of its proofs.
-const VERSION: &str = "fitrec 3.2.0\nrattle-kit-13f\nlogic dac8208d650f15bf\n";
+const VERSION: &str = "fitrec 3.3.0\nrattle-kit-13f\nlogic dac8208d650f15bf\n";
 
 /// Prints them.
 pub fn print_version<'a, O: Write>(out: &mut O) -> Result<(), Fault<'a>>

@@ -1,2 +1,3 @@
 -- No crate above uses it.
+mod Exchanged
 mod Reported

@@ -22,13 +22,23 @@
 //! is as a history of these replies allows. Trusted beside the kit is that the disk is honest.
 #![tactic(auto)]
 
+mod dialogue;
 pub mod laws;
+mod minute;
+mod minutes;
 mod playing;
 mod recording;
+mod rehearsal;
 mod reply_line;
 mod simulating;
+mod streams;
 
+pub use dialogue::Dialogue;
+pub use minute::Minute;
+pub use minutes::Minutes;
 pub use playing::play;
 pub use recording::{LineFault, record};
+pub use rehearsal::Rehearsal;
 pub use reply_line::ReplyText;
 pub use simulating::{SimulateFault, simulate};
+pub use streams::Streams;

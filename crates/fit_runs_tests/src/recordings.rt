@@ -4,11 +4,11 @@ use crate::equality::equal;
 use crate::failing::Failing;
 use crate::reading::Pieces;
 use crate::replays::records_left;
-use fit_disk::{Memory, Which};
+use fit_disk::{Disk, Memory, Which};
 use fit_files::{ReadFault, ReportFault};
-use fit_runs::record;
+use fit_runs::{Rehearsal, Streams, record};
 use std::alloc::{AllocError, Global};
-use std::io::{self, ErrorKind, Read};
+use std::io::{self, ErrorKind, Read, Write};
 use std::process::Abort;
 
 const START: &[u8] = b"start 1000000000 7 running\n";
@@ -20,6 +20,17 @@ fn all_of(lines: &[u8]) -> Pieces<'_> {
         step: usize::MAX,
         calls: usize::MAX,
     }
+}
+
+// Records the lines of a reader.
+fn record_from<D: Disk, T: Read + Drop, O: Write>(
+    alloc: Global,
+    disk: D,
+    from: T,
+    every: Option<u32>,
+    out: &mut O,
+) -> (D, Result<usize, ReportFault>) {
+    record(alloc, disk, every, &mut Streams::new(from, out))
 }
 
 // Lines, every how many seconds of the ride they are committed, their answers, and how many of these are not ok.
@@ -35,7 +46,7 @@ fn has_answers(
 ) -> bool {
     let mut out = Vec::new(alloc);
     let disk = Memory::new(alloc);
-    let (_, recorded) = record(alloc, disk, &mut all_of(lines), every, &mut out);
+    let (_, recorded) = record_from(alloc, disk, all_of(lines), every, &mut out);
     recorded == Ok(refused) && out.as_slice() == text.as_bytes()
 }
 
@@ -99,13 +110,13 @@ fn commented_ride(alloc: Global, comments: u32) -> Result<Vec<u8>, AllocError> {
 fn expect_recorded(
     rt: &impl Abort,
     alloc: Global,
-    from: &mut impl Read,
+    from: impl Read + Drop,
     recorded: Result<usize, ReportFault>,
     text: &str,
     records: u32,
 ) {
     let mut out = Vec::new(alloc);
-    let (disk, outcome) = record(alloc, Memory::new(alloc), from, None, &mut out);
+    let (disk, outcome) = record_from(alloc, Memory::new(alloc), from, None, &mut out);
     equal(rt, outcome, recorded);
     equal(rt, out.as_slice(), text.as_bytes());
     equal(rt, records_left(disk), Some(records));
@@ -120,12 +131,12 @@ fn a_reader_that_lags_ends_no_recording(rt: HostRuntime) -> Result<(), AllocErro
         step: 1,
         calls: usize::MAX,
     };
-    let mut from = Lagging {
+    let from = Lagging {
         waits: 70_000,
         bytes,
     };
     let text = "1 start: ok\n35002 sample: ok\n35003 commit: ok\n";
-    expect_recorded(&rt, rt.alloc(), &mut from, Ok(0), text, 1);
+    expect_recorded(&rt, rt.alloc(), from, Ok(0), text, 1);
     Ok(())
 }
 
@@ -168,7 +179,7 @@ const PLAIN: &[u8] = b"start 1000000000 7 running\nsample 1000000002 hr=90\n";
 fn disk_of(alloc: Global, lines: &[u8]) -> Memory {
     let mut out = Vec::new(alloc);
     let disk = Memory::new(alloc);
-    let (disk, _) = record(alloc, disk, &mut all_of(lines), None, &mut out);
+    let (disk, _) = record_from(alloc, disk, all_of(lines), None, &mut out);
     disk
 }
 
@@ -290,7 +301,7 @@ static KEPT: [(usize, u32); 7] = [(0, 0), (12, 0), (25, 1), (38, 1), (51, 2), (6
 fn ends(alloc: Global, answered: usize, printed: usize, records: u32) -> bool {
     let mut out = Failing::new(alloc, usize::MAX, answered);
     let disk = Memory::new(alloc);
-    let (disk, recorded) = record(alloc, disk, &mut all_of(TWO_SAMPLES), Some(1), &mut out);
+    let (disk, recorded) = record_from(alloc, disk, all_of(TWO_SAMPLES), Some(1), &mut out);
     let outcome = if printed == TWO_SAMPLES_ANSWERS.len() {
         Ok(0)
     } else {
@@ -312,12 +323,40 @@ fn a_recording_ends_where_its_output_fails(rt: HostRuntime) {
 // The lines that had ended are done and committed, and a line that had not ended is not done.
 #[test]
 fn a_recording_ends_where_its_input_fails(rt: HostRuntime) {
-    let mut from = Pieces {
+    let from = Pieces {
         rest: TWO_SAMPLES,
         step: 31,
         calls: 2,
     };
     let failed = Err(ReportFault::Input(ReadFault::Failed));
     let text = ONE_SAMPLE_ANSWERS;
-    expect_recorded(&rt, rt.alloc(), &mut from, failed, text, 1);
+    expect_recorded(&rt, rt.alloc(), from, failed, text, 1);
+}
+
+// How many bytes are told before the read of this byte of two samples, or of the end.
+fn told_before(byte: usize) -> usize {
+    match byte {
+        0..27 => 0,
+        27..45 => 12,
+        45..63 => 38,
+        _ => 64,
+    }
+}
+
+// The first line has 27 bytes, and the others have 18 each. Whatever a line has for answers is told before the next byte is read.
+#[test]
+fn each_line_is_answered_before_the_next_read(rt: HostRuntime) {
+    let from = Pieces {
+        rest: TWO_SAMPLES,
+        step: 1,
+        calls: usize::MAX,
+    };
+    let mut out = Vec::new(rt.alloc());
+    let mut rehearsal = Rehearsal::new(rt.alloc(), from, &mut out);
+    let (_, recorded) = record(rt.alloc(), Memory::new(rt.alloc()), Some(1), &mut rehearsal);
+    equal(&rt, recorded, Ok(0));
+    equal(&rt, rehearsal.told_before_reads.len(), 64);
+    for (byte, told) in rehearsal.told_before_reads.iter().enumerate() {
+        assert_eq!(rt; *told, told_before(byte), "{byte}");
+    }
 }

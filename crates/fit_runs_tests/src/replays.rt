@@ -6,7 +6,7 @@ use crate::reading::Pieces;
 use fit_disk::{Memory, Which};
 use fit_files::{ReportFault, check_bytes};
 use fit_recorder::recover;
-use fit_runs::{play, record};
+use fit_runs::{Streams, play, record};
 use fit_scripts::{ReplayFault, ScriptFaultKind, read_script};
 use std::alloc::{AllocError, Global};
 use std::process::Abort;
@@ -74,12 +74,17 @@ fn journal_of_start(rt: &impl Abort, alloc: Global, checked: bool) -> Result<Vec
 // The journal after a start that was recorded from its line.
 fn recorded_start(alloc: Global) -> Result<Vec<u8>, AllocError> {
     let mut out = Vec::new(alloc);
-    let mut line = Pieces {
+    let line = Pieces {
         rest: START,
         step: usize::MAX,
         calls: usize::MAX,
     };
-    let (disk, _) = record(alloc, Memory::new(alloc), &mut line, None, &mut out);
+    let (disk, _) = record(
+        alloc,
+        Memory::new(alloc),
+        None,
+        &mut Streams::new(line, &mut out),
+    );
     Vec::from_slice(alloc, disk.content(Which::Journal))
 }
 

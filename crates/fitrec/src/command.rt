@@ -33,100 +33,75 @@ pub fn command<S: AsStr, O: Write, E: Write>(
     ensures { result ≤ 2 }
 {
     let files = &mut SystemFiles(rt);
-    match read_words(rt.alloc(), words) {
-        Ok(
-            Request::Show {
-                file,
-                gpx: true,
-                utc: _,
-                json: _,
-                profile: _,
-            },
-        ) => status(export_file(files, file, ExportForm::Gpx, out), err),
-        Ok(
-            Request::Show {
-                file,
-                utc,
-                json: false,
-                profile: _,
-                gpx: false,
-            },
-        ) => status(show_file(files, file, utc, out), err),
-        Ok(
-            Request::Show {
-                file,
-                utc,
-                json: true,
-                profile,
-                gpx: false,
-            },
-        ) => {
-            let form = ExportForm::Json { profile, utc };
-            status(export_file(files, file, form, out), err)
-        }
-        Ok(Request::Check { file }) => status(check_file(files, file, out), err),
-        Ok(Request::CheckEach { names, json }) => status(check_each(files, &names, json, out), err),
-        Ok(Request::Table { file, form }) => table_chosen(files, file, &form, out, err),
-        Ok(Request::TableEach { names, form }) => table_each_chosen(files, &names, &form, out, err),
-        Ok(
-            Request::Replay {
-                script,
-                folder,
-                checked,
-            },
-        ) => status(replay_script(rt, files, script, folder, checked, out), err),
-        Ok(Request::Record { folder, every }) => record_chosen(rt, folder, every, out, err),
-        Ok(
-            Request::Save {
-                folder,
-                to,
-                earlier,
-            },
-        ) => {
+    let request = match read_words(rt.alloc(), words) {
+        Ok(request) => request,
+        Err(refusal) => return refused(refusal, err),
+    };
+    match request {
+        Request::Show {
+            file,
+            utc,
+            json,
+            profile,
+            gpx,
+        } => match (gpx, json) {
+            (true, _) => status(export_file(files, file, ExportForm::Gpx, out), err),
+            (false, true) => status(
+                export_file(files, file, ExportForm::Json { profile, utc }, out),
+                err,
+            ),
+            (false, false) => status(show_file(files, file, utc, out), err),
+        },
+        Request::Check { file } => status(check_file(files, file, out), err),
+        Request::CheckEach { names, json } => status(check_each(files, &names, json, out), err),
+        Request::Table { file, form } => table_chosen(files, file, &form, out, err),
+        Request::TableEach { names, form } => { table_each_chosen(files, &names, &form, out, err) }
+        Request::Replay {
+            script,
+            folder,
+            checked,
+        } => status(replay_script(rt, files, script, folder, checked, out), err),
+        Request::Record { folder, every } => record_chosen(rt, folder, every, out, err),
+        Request::Save {
+            folder,
+            to,
+            earlier,
+        } => {
             let done = save_folder(files, folder, to, earlier, out, err);
             status(done, err)
         }
-        Ok(
-            Request::Repair {
-                folder,
-                verify: false,
-            },
-        ) => status(repair_folder(rt, folder, out), err),
-        Ok(
-            Request::Repair {
-                folder,
-                verify: true,
-            },
-        ) => status(verify_folder(rt, folder, out).map(|_| ()), err),
-        Ok(Request::Salvage { file, to, form }) => {
+        Request::Repair { folder, verify } => {
+            if verify {
+                status(verify_folder(rt, folder, out).map(|_| ()), err)
+            } else {
+                status(repair_folder(rt, folder, out), err)
+            }
+        }
+        Request::Salvage { file, to, form } => {
             let done = salvage_file(files, file, to, &form, out, err);
             status(done, err)
         }
-        Ok(Request::Split { file, folder, all }) => {
-            status(split_file(files, file, folder, all, out), err)
-        }
-        Ok(Request::Plain { file, to }) => status(make_plain(files, file, to, out), err),
-        Ok(
-            Request::Join {
-                to,
-                first,
-                others,
-                as_given,
-            },
-        ) => {
-            let done = join_parts(files, first, others.as_slice(), as_given, to, out);
-            status(done, err)
-        }
-        Ok(Request::Shift { file, to, form }) => shift_chosen(files, file, to, &form, out, err),
-        Ok(
-            Request::Simulate {
-                script,
-                choices,
-                checked,
-            },
-        ) => simulate_chosen(files, script, choices, checked, out, err),
-        Ok(Request::Version) => status(print_version(out), err),
-        Err(refusal) => refused(refusal, err),
+        Request::Split { file, folder, all } => status(
+            split_file(files, file, folder, all, out),
+            err,
+        ),
+        Request::Plain { file, to } => status(make_plain(files, file, to, out), err),
+        Request::Join {
+            to,
+            first,
+            others,
+            as_given,
+        } => status(
+            join_parts(files, first, others.as_slice(), as_given, to, out),
+            err,
+        ),
+        Request::Shift { file, to, form } => shift_chosen(files, file, to, &form, out, err),
+        Request::Simulate {
+            script,
+            choices,
+            checked,
+        } => simulate_chosen(files, script, choices, checked, out, err),
+        Request::Version => status(print_version(out), err),
     }
 }
 
@@ -144,18 +119,15 @@ fn record_chosen<O: Write, E: Write>(
 ) -> u8
     ensures { result ≤ 2 }
 {
-    let Some(word) = every else {
-        let seconds = Some(SECONDS_BETWEEN_COMMITS);
-        return status(record_folder(rt, folder, seconds, out), err);
-    };
-    match word.parse::<u32>() {
-        Ok(0) => status(record_folder(rt, folder, None, out), err),
-        Ok(seconds) => status(record_folder(rt, folder, Some(seconds), out), err),
-        Err(_) => match no_seconds(rt.alloc(), word) {
-            Ok(refusal) => refused(refusal, err),
-            Err(refusal) => refused(refusal, err),
+    let seconds = match every {
+        None => Some(SECONDS_BETWEEN_COMMITS),
+        Some(word) => match word.parse::<u32>() {
+            Ok(0) => None,
+            Ok(seconds) => Some(seconds),
+            Err(_) => return refused_by(no_seconds(rt.alloc(), word), err),
         },
-    }
+    };
+    status(record_folder(rt, folder, seconds, out), err)
 }
 
 // Prints the table of a file. It is read only if the words name messages and fields.
@@ -206,10 +178,7 @@ fn not_chosen<E: Write>(alloc: Global, why: NotChosen<'_>, err: &mut E) -> u8
         NotChosen::Field(word) => no_name(alloc, "--fields <NAMES>", word),
         NotChosen::TooMany => too_many_fields(alloc),
     };
-    match text {
-        Ok(refusal) => refused(refusal, err),
-        Err(refusal) => refused(refusal, err),
-    }
+    refused_by(text, err)
 }
 
 // Moves the times of a file. It is read only if the words say how.
@@ -223,14 +192,10 @@ fn shift_chosen<O: Write, E: Write>(
 ) -> u8
     ensures { result ≤ 2 }
 {
-    let text = match shift_by(form) {
-        Ok(by) => return status(make_shifted(files, file, to, by, out), err),
-        Err(NotShift::By(word)) => no_shift(files.alloc(), word),
-        Err(NotShift::Start(word)) => no_start(files.alloc(), word),
-    };
-    match text {
-        Ok(refusal) => refused(refusal, err),
-        Err(refusal) => refused(refusal, err),
+    match shift_by(form) {
+        Ok(by) => status(make_shifted(files, file, to, by, out), err),
+        Err(NotShift::By(word)) => refused_by(no_shift(files.alloc(), word), err),
+        Err(NotShift::Start(word)) => refused_by(no_start(files.alloc(), word), err),
     }
 }
 
@@ -250,12 +215,16 @@ fn simulate_chosen<O: Write, E: Write>(
             let done = simulate_script(files, script, bytes.as_slice(), checked, out);
             status(done, err)
         }
-        Ok(None) => match no_choices(files.alloc(), choices) {
-            Ok(refusal) => refused(refusal, err),
-            Err(refusal) => refused(refusal, err),
-        },
+        Ok(None) => refused_by(no_choices(files.alloc(), choices), err),
         Err(_) => status(Err(Fault::NoMemory), err),
     }
+}
+
+// Prints the text on a word that is no value of its option; or that there is no memory for it.
+fn refused_by<E: Write>(text: Result<clap::Error, clap::Error>, err: &mut E) -> u8
+    ensures { result ≤ 2 }
+{
+    refused(text.unwrap_or_else(|refusal| refusal), err)
 }
 
 // Prints the text on words that are no command, or help, and returns the exit status.

@@ -4,7 +4,7 @@ use Rattle.std.specs.Str.Lines.{lines}
 use Rattle.fit_disk.specs.Story.{Story}
 use Rattle.fit_histories.specs.declared.event.Event.{Event}
 use Rattle.fit_runs.specs.Printed.ReplyLines.{AreReported}
-use Rattle.fit_runs.specs.Rides.Turns.{Finishes}
+use Rattle.fit_runs.specs.Rides.Turns.{Turn, Finishes}
 use Rattle.fit_scripts.specs.Scripts.Script.{events_of}
 use Rattle.fit_commands.specs.Reading.{IsRead}
 use Rattle.fit_commands.specs.Reported.{PrintsNothing}
@@ -29,5 +29,5 @@ PrintsNoLine old new fault = PrintsNothing old new fault
 -- the lines of some bytes were done, with a commit every so many seconds of the ride, and so many answers were not ok
 abbrev pub RecordsLines : Option ℕ → Option (List ℕ) → Option (List ℕ) → ℕ → Type 0
 RecordsLines every old new refused =
-    (bytes : List ℕ) × (honest : Bool) × (before : Story) × (after : Story)
-    × Finishes honest before after every bytes old new (Ok refused)
+    (bytes : List ℕ) × (turns : List Turn) × (honest : Bool) × (before : Story) × (after : Story)
+    × Finishes honest before after every bytes turns old new (Ok refused)

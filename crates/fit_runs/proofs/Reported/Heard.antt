@@ -52,9 +52,8 @@ pub finishes : (honest : Bool) (old new : Story) (every : Option ℕ) (bytes : L
     (before middle after : Option (List ℕ)) (result : Result ℕ ReportFault) → lines ≡ lines_in bytes → AnswersLines every [] 1 lines own →
     number ≡ length lines → RepliesToAll honest old new (own ++ end) → CommitsIfDue (rides_after false own) (number + 1) end →
     IfOk result (λ refused. refused ≡ refused_in (own ++ end)) → IfErr result IsOutputFault → Appends before middle (turns_text own) →
-    Prints middle after result end → Finishes honest old new every bytes before after result
+    Prints middle after result end → Finishes honest old new every bytes (own ++ end) before after result
 finishes honest old new every bytes lines own end number before middle after (Ok refused) is answers counted does ends count fault printed prints = (
-  own ++ end,
   all_with every (lines_in bytes) lines own end (number + 1) is answers (omega (arith, counted)) ends,
   does,
   count,
@@ -64,7 +63,6 @@ finishes honest old new every bytes lines own end number before middle after (Er
   bytes,
   [],
   sym (append-nil bytes),
-  own ++ end,
   inr (inr (all_with every (lines_in bytes) lines own end (number + 1) is answers (omega (arith, counted)) ends)),
   does,
   cut_after before middle after own end printed prints,
@@ -75,13 +73,13 @@ finishes honest old new every bytes lines own end number before middle after (Er
 finishes honest old new every bytes lines own end number before middle after (Err (Plain why)) is answers counted does ends count fault printed prints = absurd fault
 
 -- the output failed
-pub broken_finishes : (honest : Bool) (old new : Story) (every : Option ℕ) (bytes : List ℕ) (before after : Option (List ℕ)) (fault : ReportFault) →
-    IsOutputFault fault → BrokenOff honest old new every bytes before after → Finishes honest old new every bytes before after (Err fault)
-broken_finishes honest old new every bytes before after Output output broken = broken
-broken_finishes honest old new every bytes before after (File why) output broken = absurd output
-broken_finishes honest old new every bytes before after (Activity why) output broken = absurd output
-broken_finishes honest old new every bytes before after (Input why) output broken = absurd output
-broken_finishes honest old new every bytes before after (Plain why) output broken = absurd output
+pub broken_finishes : (honest : Bool) (old new : Story) (every : Option ℕ) (bytes : List ℕ) (turns : List Turn) (before after : Option (List ℕ)) (fault : ReportFault) →
+    IsOutputFault fault → BrokenOff honest old new every bytes turns before after → Finishes honest old new every bytes turns before after (Err fault)
+broken_finishes honest old new every bytes turns before after Output output broken = broken
+broken_finishes honest old new every bytes turns before after (File why) output broken = absurd output
+broken_finishes honest old new every bytes turns before after (Activity why) output broken = absurd output
+broken_finishes honest old new every bytes turns before after (Input why) output broken = absurd output
+broken_finishes honest old new every bytes turns before after (Plain why) output broken = absurd output
 
 -- the output failed at these lines
 abbrev ReachesIn : Option ℕ → List (List ℕ) → List Turn → Type 0
@@ -129,9 +127,8 @@ module _ {D : Type 0} (honest : Bool) (story : D → Story) where
 module _ {D : Type 0} (honest : Bool) (story : D → Story) (every : Option ℕ) where
   -- before the first byte
   pub nothing_heard : (old : Story) (session : Session D) (held : Held) (out : Option (List ℕ)) → session.line ≡ 0 → SoFar honest story every old [] session →
-      IsHeld [] held → HasHeard honest story every old [] out (record { session = session; held = held }) out
+      IsHeld [] held → HasHeard honest story every old [] [] out (record { session = session; held = held }) out
   nothing_heard old session held out none known kept = record {
-    turns = [];
     ended = [];
     whole = [];
     line = [];
@@ -146,11 +143,10 @@ module _ {D : Type 0} (honest : Bool) (story : D → Story) (every : Option ℕ)
   }
 
   -- a byte other than a newline
-  pub heard_other : (old : Story) (bytes : List ℕ) (byte : ℕ) (before after : Option (List ℕ)) (listener : Listener D) (held : Held) →
-      (known : HasHeard honest story every old bytes before listener after) → byte ≢ 10 → IsHeld (known.line ++ byte ∷ []) held →
-      HasHeard honest story every old (bytes ++ byte ∷ []) before (record { session = listener.session; held = held }) after
-  heard_other old bytes byte before after listener held known other kept = record {
-    turns = known.turns;
+  pub heard_other : (old : Story) (bytes : List ℕ) (turns : List Turn) (byte : ℕ) (before after : Option (List ℕ)) (listener : Listener D) (held : Held) →
+      (known : HasHeard honest story every old bytes turns before listener after) → byte ≢ 10 → IsHeld (known.line ++ byte ∷ []) held →
+      HasHeard honest story every old (bytes ++ byte ∷ []) turns before (record { session = listener.session; held = held }) after
+  heard_other old bytes turns byte before after listener held known other kept = record {
     ended = known.ended;
     whole = known.whole;
     line = known.line ++ byte ∷ [];
@@ -165,17 +161,16 @@ module _ {D : Type 0} (honest : Bool) (story : D → Story) (every : Option ℕ)
   }
 
   -- a newline, and the turns of the line that it ends
-  pub heard_newline : (old : Story) (bytes : List ℕ) (byte : ℕ) (before middle after : Option (List ℕ)) (listener : Listener D) (next : Session D)
-      (held : Held) (own : List Turn) (result : Result (Unit {0}) ReportFault) → (known : HasHeard honest story every old bytes before listener middle) → byte ≡ 10 →
-      TakesLine result every (times_after [] known.turns) (listener.session.line + 1) (line_of true known.line) own → SoFar honest story every old (known.turns ++ own) next →
+  pub heard_newline : (old : Story) (bytes : List ℕ) (turns : List Turn) (byte : ℕ) (before middle after : Option (List ℕ)) (listener : Listener D) (next : Session D)
+      (held : Held) (own : List Turn) (result : Result (Unit {0}) ReportFault) → (known : HasHeard honest story every old bytes turns before listener middle) → byte ≡ 10 →
+      TakesLine result every (times_after [] turns) (listener.session.line + 1) (line_of true known.line) own → SoFar honest story every old (turns ++ own) next →
       Prints middle after result own → next.line ≡ listener.session.line + 1 → IsHeld [] held →
-      OnOk result (HasHeard honest story every old (bytes ++ byte ∷ []) before (record { session = next; held = held }) after)
-      × OnErr result (BreaksOffAt honest story every old (bytes ++ byte ∷ []) before (record { session = next; held = held }) after)
-  heard_newline old bytes byte before middle after listener next held own (Ok done) known newline answers so_far prints number kept =
+      OnOk result (HasHeard honest story every old (bytes ++ byte ∷ []) (turns ++ own) before (record { session = next; held = held }) after)
+      × OnErr result (BreaksOffAt honest story every old (bytes ++ byte ∷ []) (turns ++ own) before (record { session = next; held = held }) after)
+  heard_newline old bytes turns byte before middle after listener next held own (Ok done) known newline answers so_far prints number kept =
       let lines = known.ended ++ line_of true known.line ∷ [] in
       let heard = newline_heard bytes byte known.ended known.line known.all newline in (
         record {
-          turns = known.turns ++ own;
           ended = lines;
           whole = bytes ++ byte ∷ [];
           line = [];
@@ -184,35 +179,34 @@ module _ {D : Type 0} (honest : Bool) (story : D → Story) (every : Option ℕ)
           all = heard;
           held = kept;
           number = omega (arith, number, known.number, length-append known.ended (line_of true known.line ∷ []));
-          answers = answers_more every [] 1 known.ended known.turns (line_of true known.line) own (listener.session.line + 1) known.answers
+          answers = answers_more every [] 1 known.ended turns (line_of true known.line) own (listener.session.line + 1) known.answers
               (omega (arith, known.number)) answers;
           so_far = so_far;
-          printed = prints_then before middle after known.turns own (Ok done) known.printed prints;
+          printed = prints_then before middle after turns own (Ok done) known.printed prints;
         },
         tt,
       )
-  heard_newline old bytes byte before middle after listener next held own (Err fault) known newline answers so_far prints number kept =
+  heard_newline old bytes turns byte before middle after listener next held own (Err fault) known newline answers so_far prints number kept =
       let lines = known.ended ++ line_of true known.line ∷ [] in (
         tt,
         record {
-          turns = known.turns ++ own;
           ended = lines;
           heard = bytes ++ byte ∷ [];
           rest = [];
           split = sym (append-nil (bytes ++ byte ∷ []));
           to_newline = newline_heard bytes byte known.ended known.line known.all newline;
-          answers = up_to_more every known.ended known.turns (line_of true known.line) own (listener.session.line + 1) fault known.answers
+          answers = up_to_more every known.ended turns (line_of true known.line) own (listener.session.line + 1) fault known.answers
               (omega (arith, known.number)) answers;
           so_far = so_far;
-          cut = cut_after before middle after known.turns own known.printed prints;
+          cut = cut_after before middle after turns own known.printed prints;
         },
       )
 
   -- more bytes come after those that were done
-  pub breaks_more : (old : Story) (bytes more all : List ℕ) (before after : Option (List ℕ)) (listener : Listener D) →
-      BreaksOffAt honest story every old bytes before listener after → all ≡ bytes ++ more → BreaksOffAt honest story every old all before listener after
-  breaks_more old bytes more all before after listener known is = record {
-    turns = known.turns;
+  pub breaks_more : (old : Story) (bytes more all : List ℕ) (turns : List Turn) (before after : Option (List ℕ)) (listener : Listener D) →
+      BreaksOffAt honest story every old bytes turns before listener after → all ≡ bytes ++ more →
+      BreaksOffAt honest story every old all turns before listener after
+  breaks_more old bytes more all turns before after listener known is = record {
     ended = known.ended;
     heard = known.heard;
     rest = known.rest ++ more;
@@ -223,95 +217,92 @@ module _ {D : Type 0} (honest : Bool) (story : D → Story) (every : Option ℕ)
     cut = known.cut;
   }
 
-  pub broken_off : (old new : Story) (bytes : List ℕ) (before after : Option (List ℕ)) (listener : Listener D) →
-      (known : BreaksOffAt honest story every old bytes before listener after) →
-      LeavesByTurns honest old new known.turns → BrokenOff honest old new every bytes before after
-  broken_off old new bytes before after listener known leaves = (
+  pub broken_off : (old new : Story) (bytes : List ℕ) (turns : List Turn) (before after : Option (List ℕ)) (listener : Listener D) →
+      (known : BreaksOffAt honest story every old bytes turns before listener after) →
+      LeavesByTurns honest old new turns → BrokenOff honest old new every bytes turns before after
+  broken_off old new bytes turns before after listener known leaves = (
     known.heard,
     known.rest,
     known.split,
-    known.turns,
-    to_some every (lines_in known.heard) known.ended known.turns (no_last known.heard known.ended [] known.to_newline refl) known.answers,
+    to_some every (lines_in known.heard) known.ended turns (no_last known.heard known.ended [] known.to_newline refl) known.answers,
     record { may = known.so_far.may; leaves = leaves },
     known.cut,
   )
 
   -- all bytes were heard, and the last is a newline
-  pub finished_whole : (old new : Story) (bytes : List ℕ) (before middle after : Option (List ℕ)) (listener : Listener D) (end : List Turn)
-      (result : Result ℕ ReportFault) → (known : HasHeard honest story every old bytes before listener middle) → known.line ≡ [] →
-      RepliesToAll honest old new (known.turns ++ end) → CommitsIfDue (rides_after false known.turns) (listener.session.line + 1) end →
-      IfOk result (λ refused. refused ≡ refused_in (known.turns ++ end)) → IfErr result IsOutputFault → Prints middle after result end →
-      Finishes honest old new every bytes before after result
-  finished_whole old new bytes before middle after listener end result known none does ends count fault prints =
-      finishes honest old new every bytes known.ended known.turns end listener.session.line before middle after result
+  pub finished_whole : (old new : Story) (bytes : List ℕ) (turns : List Turn) (before middle after : Option (List ℕ)) (listener : Listener D)
+      (end : List Turn) (result : Result ℕ ReportFault) → (known : HasHeard honest story every old bytes turns before listener middle) →
+      known.line ≡ [] → RepliesToAll honest old new (turns ++ end) → CommitsIfDue (rides_after false turns) (listener.session.line + 1) end →
+      IfOk result (λ refused. refused ≡ refused_in (turns ++ end)) → IfErr result IsOutputFault → Prints middle after result end →
+      Finishes honest old new every bytes (turns ++ end) before after result
+  finished_whole old new bytes turns before middle after listener end result known none does ends count fault prints =
+      finishes honest old new every bytes known.ended turns end listener.session.line before middle after result
       (no_last bytes known.ended known.line known.all none) known.answers known.number does ends count fault known.printed prints
 
   -- the last line has no newline, and was done too
-  pub finished_last : (old new : Story) (bytes : List ℕ) (before middle last after : Option (List ℕ)) (listener : Listener D) (next : Session D)
-      (own end : List Turn) (result : Result ℕ ReportFault) → (known : HasHeard honest story every old bytes before listener middle) → known.line ≢ [] →
-      AnswersLine every (times_after [] known.turns) (listener.session.line + 1) known.line own → next.line ≡ listener.session.line + 1 →
-      Appends middle last (turns_text own) → RepliesToAll honest old new ((known.turns ++ own) ++ end) →
-      CommitsIfDue (rides_after false (known.turns ++ own)) (next.line + 1) end →
-      IfOk result (λ refused. refused ≡ refused_in ((known.turns ++ own) ++ end)) → IfErr result IsOutputFault → Prints last after result end →
-      Finishes honest old new every bytes before after result
-  finished_last old new bytes before middle last after listener next own end result known some answers number printed does ends count fault prints =
-      finishes honest old new every bytes (known.ended ++ known.line ∷ []) (known.turns ++ own) end next.line before last after result
+  pub finished_last : (old new : Story) (bytes : List ℕ) (turns : List Turn) (before middle last after : Option (List ℕ)) (listener : Listener D) (next : Session D)
+      (own end : List Turn) (result : Result ℕ ReportFault) → (known : HasHeard honest story every old bytes turns before listener middle) → known.line ≢ [] →
+      AnswersLine every (times_after [] turns) (listener.session.line + 1) known.line own → next.line ≡ listener.session.line + 1 →
+      Appends middle last (turns_text own) → RepliesToAll honest old new ((turns ++ own) ++ end) →
+      CommitsIfDue (rides_after false (turns ++ own)) (next.line + 1) end →
+      IfOk result (λ refused. refused ≡ refused_in ((turns ++ own) ++ end)) → IfErr result IsOutputFault → Prints last after result end →
+      Finishes honest old new every bytes (turns ++ (own ++ end)) before after result
+  finished_last old new bytes turns before middle last after listener next own end result known some answers number printed does ends count fault prints =
+      subst (λ all. Finishes honest old new every bytes all before after result) (append_assoc turns own end) (
+      finishes honest old new every bytes (known.ended ++ known.line ∷ []) (turns ++ own) end next.line before last after result
       (one_last bytes known.ended known.line known.all some)
-      (answers_more every [] 1 known.ended known.turns known.line own (listener.session.line + 1) known.answers (omega (arith, known.number)) answers)
+      (answers_more every [] 1 known.ended turns known.line own (listener.session.line + 1) known.answers (omega (arith, known.number)) answers)
       (omega (arith, number, known.number, length-append known.ended (known.line ∷ []))) does ends count fault
-      (prints_then {X = Unit {0}} before middle last known.turns own (Ok (tt {0})) known.printed printed) prints
+      (prints_then {X = Unit {0}} before middle last turns own (Ok (tt {0})) known.printed printed) prints)
 
   -- the output failed at the last line, which has no newline
-  pub failed_last : (old new : Story) (bytes : List ℕ) (before middle after : Option (List ℕ)) (listener : Listener D) (next : Session D)
-      (own : List Turn) (fault : ReportFault) → (known : HasHeard honest story every old bytes before listener middle) → known.line ≢ [] →
-      TakesLine {X = Unit {0}} (Err fault) every (times_after [] known.turns) (listener.session.line + 1) known.line own →
-      SoFar honest story every old (known.turns ++ own) next →
-      LeavesByTurns honest old new (known.turns ++ own) → IsOutputFault fault → PrintsPart middle after own →
-      Finishes honest old new every bytes before after (Err fault)
-  failed_last old new bytes before middle after listener next own fault known some answers so_far leaves output cut =
-      broken_finishes honest old new every bytes before after fault output (
+  pub failed_last : (old new : Story) (bytes : List ℕ) (turns : List Turn) (before middle after : Option (List ℕ)) (listener : Listener D) (next : Session D)
+      (own : List Turn) (fault : ReportFault) → (known : HasHeard honest story every old bytes turns before listener middle) → known.line ≢ [] →
+      TakesLine {X = Unit {0}} (Err fault) every (times_after [] turns) (listener.session.line + 1) known.line own →
+      SoFar honest story every old (turns ++ own) next →
+      LeavesByTurns honest old new (turns ++ own) → IsOutputFault fault → PrintsPart middle after own →
+      Finishes honest old new every bytes (turns ++ own) before after (Err fault)
+  failed_last old new bytes turns before middle after listener next own fault known some answers so_far leaves output cut =
+      broken_finishes honest old new every bytes (turns ++ own) before after fault output (
         bytes,
         [],
         sym (append-nil bytes),
-        known.turns ++ own,
-        to_some every (lines_in bytes) (known.ended ++ known.line ∷ []) (known.turns ++ own) (one_last bytes known.ended known.line known.all some)
-            (up_to_more every known.ended known.turns known.line own (listener.session.line + 1) fault known.answers (omega (arith, known.number)) answers),
+        to_some every (lines_in bytes) (known.ended ++ known.line ∷ []) (turns ++ own) (one_last bytes known.ended known.line known.all some)
+            (up_to_more every known.ended turns known.line own (listener.session.line + 1) fault known.answers (omega (arith, known.number)) answers),
         record { may = so_far.may; leaves = leaves },
-        cut_after before middle after known.turns own known.printed cut,
+        cut_after before middle after turns own known.printed cut,
       )
 
   -- the lines that ended, and a commit if a recorder ran
-  ended_all : (old : Story) (bytes : List ℕ) (before middle : Option (List ℕ)) (listener : Listener D) (all : List (List ℕ)) (end : List Turn) →
-      (known : HasHeard honest story every old bytes before listener middle) → known.ended ≡ all →
-      CommitsIfDue (rides_after false known.turns) (listener.session.line + 1) end → AnswersAll every all (known.turns ++ end)
-  ended_all old bytes before middle listener all end known is ends =
-      all_with every all known.ended known.turns end (listener.session.line + 1) is known.answers (omega (arith, known.number)) ends
+  ended_all : (old : Story) (bytes : List ℕ) (turns : List Turn) (before middle : Option (List ℕ)) (listener : Listener D) (all : List (List ℕ)) (end : List Turn) →
+      (known : HasHeard honest story every old bytes turns before listener middle) → known.ended ≡ all →
+      CommitsIfDue (rides_after false turns) (listener.session.line + 1) end → AnswersAll every all (turns ++ end)
+  ended_all old bytes turns before middle listener all end known is ends =
+      all_with every all known.ended turns end (listener.session.line + 1) is known.answers (omega (arith, known.number)) ends
 
   -- reads failed, and a commit was made if a recorder ran
-  pub reads_failed : (old new : Story) (bytes : List ℕ) (before middle after : Option (List ℕ)) (listener : Listener D) (end : List Turn) (why : ReadFault) →
-      (known : HasHeard honest story every old bytes before listener middle) → RepliesToAll honest old new (known.turns ++ end) →
-      CommitsIfDue (rides_after false known.turns) (listener.session.line + 1) end → Appends middle after (turns_text end) →
-      Finishes honest old new every bytes before after (Err (Input why))
-  reads_failed old new bytes before middle after listener end why known does ends printed = (
-    known.turns ++ end,
-    ended_all old bytes before middle listener (lines_heard_in bytes).ended end known (sym (ap (λ h. h.ended) known.all)) ends,
+  pub reads_failed : (old new : Story) (bytes : List ℕ) (turns : List Turn) (before middle after : Option (List ℕ)) (listener : Listener D) (end : List Turn) (why : ReadFault) →
+      (known : HasHeard honest story every old bytes turns before listener middle) → RepliesToAll honest old new (turns ++ end) →
+      CommitsIfDue (rides_after false turns) (listener.session.line + 1) end → Appends middle after (turns_text end) →
+      Finishes honest old new every bytes (turns ++ end) before after (Err (Input why))
+  reads_failed old new bytes turns before middle after listener end why known does ends printed = (
+    ended_all old bytes turns before middle listener (lines_heard_in bytes).ended end known (sym (ap (λ h. h.ended) known.all)) ends,
     does,
-    prints_then {X = Unit {0}} before middle after known.turns end (Ok (tt {0})) known.printed printed,
+    prints_then {X = Unit {0}} before middle after turns end (Ok (tt {0})) known.printed printed,
   )
 
   -- the output failed at that commit
-  pub commit_failed : (old new : Story) (bytes : List ℕ) (before middle after : Option (List ℕ)) (listener : Listener D) (end : List Turn) (fault : ReportFault) →
-      (known : HasHeard honest story every old bytes before listener middle) → RepliesToAll honest old new (known.turns ++ end) →
-      CommitsIfDue (rides_after false known.turns) (listener.session.line + 1) end → IsOutputFault fault → PrintsPart middle after end →
-      Finishes honest old new every bytes before after (Err fault)
-  commit_failed old new bytes before middle after listener end fault known does ends output cut =
-      broken_finishes honest old new every bytes before after fault output (
+  pub commit_failed : (old new : Story) (bytes : List ℕ) (turns : List Turn) (before middle after : Option (List ℕ)) (listener : Listener D) (end : List Turn) (fault : ReportFault) →
+      (known : HasHeard honest story every old bytes turns before listener middle) → RepliesToAll honest old new (turns ++ end) →
+      CommitsIfDue (rides_after false turns) (listener.session.line + 1) end → IsOutputFault fault → PrintsPart middle after end →
+      Finishes honest old new every bytes (turns ++ end) before after (Err fault)
+  commit_failed old new bytes turns before middle after listener end fault known does ends output cut =
+      broken_finishes honest old new every bytes (turns ++ end) before after fault output (
         known.whole,
         known.line,
         known.split,
-        known.turns ++ end,
-        inr (inr (ended_all old bytes before middle listener (lines_in known.whole) end known
+        inr (inr (ended_all old bytes turns before middle listener (lines_in known.whole) end known
             (no_last known.whole known.ended [] known.to_newline refl) ends)),
         does,
-        cut_after before middle after known.turns end known.printed cut,
+        cut_after before middle after turns end known.printed cut,
       )

@@ -207,34 +207,34 @@ pub record RepliesToAll (honest : Bool) (old new : Story) (turns : List Turn) : 
   pub may : MayReplyAll false (events_in turns) (replies_in turns)
   pub leaves : LeavesByTurns honest old new turns
 
--- the output failed: of these bytes the first were done, and the text of the turns was cut short
-abbrev pub BrokenOff : Bool → Story → Story → Option ℕ → List ℕ → Option (List ℕ) → Option (List ℕ)
-    → Type 0
-BrokenOff honest old new every bytes before after =
-    (heard : List ℕ) × (rest : List ℕ) × (bytes ≡ heard ++ rest) × (turns : List Turn)
+-- the output failed: of these bytes the first were done in these turns, whose text was cut short
+abbrev pub BrokenOff : Bool → Story → Story → Option ℕ → List ℕ → List Turn → Option (List ℕ)
+    → Option (List ℕ) → Type 0
+BrokenOff honest old new every bytes turns before after =
+    (heard : List ℕ) × (rest : List ℕ) × (bytes ≡ heard ++ rest)
     × AnswersSome every (lines_in heard) turns
     × RepliesToAll honest old new turns × PrintsPart before after turns
 
--- All these bytes were done, with a commit at the end if a recorder ran, and so many answers are not ok. If reads failed, the bytes of a
--- line that had not ended were not done.
-abbrev pub Finishes : Bool → Story → Story → Option ℕ → List ℕ → Option (List ℕ) → Option (List ℕ)
-    → Result ℕ ReportFault → Type 0
-Finishes honest old new every bytes before after (Ok refused) =
-    (turns : List Turn) × AnswersAll every (lines_in bytes) turns
+-- All these bytes were done in these turns, with a commit at the end if a recorder ran, and so many answers are not ok. If reads failed,
+-- the bytes of a line that had not ended were not done.
+abbrev pub Finishes : Bool → Story → Story → Option ℕ → List ℕ → List Turn → Option (List ℕ)
+    → Option (List ℕ) → Result ℕ ReportFault → Type 0
+Finishes honest old new every bytes turns before after (Ok refused) =
+    AnswersAll every (lines_in bytes) turns
     × RepliesToAll honest old new turns × (refused ≡ refused_in turns)
     × Appends before after (turns_text turns)
-Finishes honest old new every bytes before after (Err (Input why)) =
-    (turns : List Turn) × AnswersAll every (lines_heard_in bytes).ended turns
+Finishes honest old new every bytes turns before after (Err (Input why)) =
+    AnswersAll every (lines_heard_in bytes).ended turns
     × RepliesToAll honest old new turns × Appends before after (turns_text turns)
-Finishes honest old new every bytes before after (Err fault) =
-    BrokenOff honest old new every bytes before after
+Finishes honest old new every bytes turns before after (Err fault) =
+    BrokenOff honest old new every bytes turns before after
 
 -- so it went with all bytes that were read
 abbrev pub RecordsBytes : Bool → Story → Story → Option ℕ → Option (List ℕ) → Option (List ℕ)
     → Option (List ℕ) → Option (List ℕ) → Result ℕ ReportFault → Type 0
 RecordsBytes honest old new every from left before after result =
     (bytes : List ℕ) × Consumes from left bytes × OnOk result (IsAtEnd left)
-    × Finishes honest old new every bytes before after result
+    × (turns : List Turn) × Finishes honest old new every bytes turns before after result
 
 -- ---- for the calls
 

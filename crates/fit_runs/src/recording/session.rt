@@ -7,20 +7,21 @@ ghost use Rattle.fit_histories.specs.declared.reply.Reply.{Reply as AReply};
 ghost use Rattle.fit_files.specs.Printed.Shown.{IsOutputFault};
 ghost use Rattle.fit_histories.specs.Rides.Ride.{CanGoOn, is_riding};
 ghost use Rattle.fit_runs.specs.Rides.Turns.{Turn, Asked, Faulty, RepliesToAll, refused_count, refused_in, TakesLine, CommitsIfDue, CommitsUnlessBroken, IsLineFault, Prints, SoFar, commit_at, is_due_after, rides_after, times_after, LeavesByTurns};
+ghost use Rattle.fit_runs.specs.Exchanges.{OnlyTells, told};
 ghost use Rattle.fit_histories.specs.Commands.{is_simulated};
 ghost use Rattle.fit_scripts.specs.Scripts.Replayed.{IsReplayed};
 ghost use Rattle.fit_scripts.specs.Scripts.Script.{meaning_of};
 
+use crate::Dialogue;
 use crate::recording::clock::Clock;
 use crate::recording::line_fault::{FaultyLine, LineFault};
+use crate::recording::told_line::tell_line;
 use crate::reply_line::ReplyLine;
 use fit_disk::Disk;
-use fit_files::{ReportFault, print};
+use fit_files::ReportFault;
 use fit_histories::{Command, Event, Reply, Ride};
 use fit_scripts::command_at;
-use fit_text::Pen;
 use std::alloc::Global;
-use std::io::Write;
 
 /// A ride, how many lines it took, and how many answers were not ok.
 #[derive(Drop)]
@@ -50,19 +51,18 @@ impl<D: Disk> Session<D> {
     }
 
     /// Does what the next line states, and prints the answer. A line that is `None` is too long.
-    pub fn take_line<O: Write>(
+    pub fn take_line<P: Dialogue>(
         self,
         alloc: Global,
         line: Option<&[u8]>,
-        pen: &mut Pen<'_, O>,
+        dialogue: &mut P,
     ) -> (Session<D>, Result<(), ReportFault>)
         requires goes_on { CanGoOn D.honest D.story self.ride }
-        requires waits { pen.old.waiting ≡ [] }
         requires room { self.line < 2 ^ 60 }
         requires few { self.refused ≤ 2 * self.line }
         ensures goes_on { CanGoOn D.honest D.story result.0.ride }
-        ensures same { pen.new.name ≡ pen.old.name }
-        ensures waits { OnOk result.1 (pen.new.waiting ≡ []) }
+        ensures tells { OnlyTells (P.story dialogue.old) (P.story dialogue.new)
+            (P.sides dialogue.old) (P.sides dialogue.new) }
         ensures fault { IfErr result.1 IsOutputFault }
         ensures number { result.0.line ≡ self.line + 1 }
         ensures few { result.0.refused ≤ 2 * (self.line + 1) }
@@ -73,7 +73,7 @@ impl<D: Disk> Session<D> {
             → (own : List Turn)
             × TakesLine result.1 every (times_after [] turns) (self.line + 1) bytes own
             × SoFar D.honest D.story every old (turns ++ own) result.0
-            × Prints pen.old.held pen.new.held result.1 own }
+            × Prints (told (P.story dialogue.old)) (told (P.story dialogue.new)) result.1 own }
     {
         let number = self.line + 1;
         let session = self.at(number);
@@ -84,9 +84,9 @@ impl<D: Disk> Session<D> {
                     line: number,
                     command,
                 },
-                pen,
+                dialogue,
             ),
-            Err(fault) => session.refuse(fault, pen),
+            Err(fault) => session.refuse(fault, dialogue),
         }
     }
 
@@ -109,27 +109,27 @@ impl<D: Disk> Session<D> {
     }
 
     // Answers a line that cannot be done with its fault.
-    fn refuse<O: Write>(
+    fn refuse<P: Dialogue>(
         self,
         fault: LineFault,
-        pen: &mut Pen<'_, O>,
+        dialogue: &mut P,
     ) -> (Session<D>, Result<(), ReportFault>)
-        requires waits { pen.old.waiting ≡ [] }
         requires room { self.refused < 2 ^ 62 }
         ensures ride { result.0.ride ≡ self.ride }
         ensures clock { result.0.clock ≡ self.clock }
-        ensures same { pen.new.name ≡ pen.old.name }
-        ensures waits { OnOk result.1 (pen.new.waiting ≡ []) }
+        ensures tells { OnlyTells (P.story dialogue.old) (P.story dialogue.new)
+            (P.sides dialogue.old) (P.sides dialogue.new) }
         ensures fault { IfErr result.1 IsOutputFault }
         ensures number { result.0.line ≡ self.line }
         ensures few { result.0.refused ≡ self.refused + 1 }
-        ensures printed { Prints pen.old.held pen.new.held result.1 (Faulty self.line fault ∷ []) }
+        ensures printed { Prints (told (P.story dialogue.old)) (told (P.story dialogue.new))
+            result.1 (Faulty self.line fault ∷ []) }
     {
         let line = FaultyLine {
             line: self.line,
             fault,
         };
-        let printed = print(&line, pen);
+        let printed = tell_line(&line, dialogue);
         (self.with_refusal(), printed)
     }
 
@@ -153,18 +153,17 @@ impl<D: Disk> Session<D> {
     }
 
     // Runs an event, and a commit after it if one is due.
-    fn run<O: Write>(
+    fn run<P: Dialogue>(
         self,
         event: &Event,
-        pen: &mut Pen<'_, O>,
+        dialogue: &mut P,
     ) -> (Session<D>, Result<(), ReportFault>)
         requires goes_on { CanGoOn D.honest D.story self.ride }
         requires replayed { IsReplayed event.now }
-        requires waits { pen.old.waiting ≡ [] }
         requires room { self.refused < 2 ^ 62 - 2 }
         ensures goes_on { CanGoOn D.honest D.story result.0.ride }
-        ensures same { pen.new.name ≡ pen.old.name }
-        ensures waits { OnOk result.1 (pen.new.waiting ≡ []) }
+        ensures tells { OnlyTells (P.story dialogue.old) (P.story dialogue.new)
+            (P.sides dialogue.old) (P.sides dialogue.new) }
         ensures fault { IfErr result.1 IsOutputFault }
         ensures number { result.0.line ≡ self.line }
         ensures few { result.0.refused ≤ self.refused + 2 }
@@ -175,13 +174,14 @@ impl<D: Disk> Session<D> {
             (is_due_after every (times_after [] turns) (Asked event.now reply last))
             event.now.line more
             × SoFar D.honest D.story every old (turns ++ Asked event.now reply last ∷ more) result.0
-            × Prints pen.old.held pen.new.held result.1 (Asked event.now reply last ∷ more) }
+            × Prints (told (P.story dialogue.old)) (told (P.story dialogue.new)) result.1
+            (Asked event.now reply last ∷ more) }
     {
-        let (session, printed) = self.ask(event, pen);
+        let (session, printed) = self.ask(event, dialogue);
         match printed {
             Ok(()) if session.clock.is_due() => {
                 let commit = commit_at(event.line);
-                session.ask(&commit, pen)
+                session.ask(&commit, dialogue)
             }
             Ok(()) => (session, Ok(())),
             Err(fault) => (session, Err(fault)),
@@ -189,18 +189,17 @@ impl<D: Disk> Session<D> {
     }
 
     // Runs an event, and prints the reply.
-    fn ask<O: Write>(
+    fn ask<P: Dialogue>(
         self,
         event: &Event,
-        pen: &mut Pen<'_, O>,
+        dialogue: &mut P,
     ) -> (Session<D>, Result<(), ReportFault>)
         requires goes_on { CanGoOn D.honest D.story self.ride }
         requires replayed { IsReplayed event.now }
-        requires waits { pen.old.waiting ≡ [] }
         requires room { self.refused < 2 ^ 62 }
         ensures goes_on { CanGoOn D.honest D.story result.0.ride }
-        ensures same { pen.new.name ≡ pen.old.name }
-        ensures waits { OnOk result.1 (pen.new.waiting ≡ []) }
+        ensures tells { OnlyTells (P.story dialogue.old) (P.story dialogue.new)
+            (P.sides dialogue.old) (P.sides dialogue.new) }
         ensures fault { IfErr result.1 IsOutputFault }
         ensures number { result.0.line ≡ self.line }
         ensures few { result.0.refused ≤ self.refused + 1 }
@@ -210,7 +209,8 @@ impl<D: Disk> Session<D> {
             × SoFar D.honest D.story every old (turns ++ Asked event.now reply last ∷ []) result.0
             × (result.0.clock.is_due
             ≡ is_due_after every (times_after [] turns) (Asked event.now reply last))
-            × Prints pen.old.held pen.new.held result.1 (Asked event.now reply last ∷ []) }
+            × Prints (told (P.story dialogue.old)) (told (P.story dialogue.new)) result.1
+            (Asked event.now reply last ∷ []) }
     {
         let Session {
             ride,
@@ -221,7 +221,7 @@ impl<D: Disk> Session<D> {
         let (ride, reply) = ride.ask(&event.command, true);
         let clock = clock.note(&event.command, reply.is_ok(), ride.last_time());
         let refused = refused + refusals(reply);
-        let printed = print(&ReplyLine { event, reply }, pen);
+        let printed = tell_line(&ReplyLine { event, reply }, dialogue);
         (
             Session {
                 ride,
@@ -234,26 +234,26 @@ impl<D: Disk> Session<D> {
     }
 
     /// Commits after the last line, if a recorder runs, and prints the reply. Returns the disk and the number of answers that were not ok.
-    pub fn finish<O: Write>(self, pen: &mut Pen<'_, O>) -> (D, Result<usize, ReportFault>)
+    pub fn finish<P: Dialogue>(self, dialogue: &mut P) -> (D, Result<usize, ReportFault>)
         requires goes_on { CanGoOn D.honest D.story self.ride }
-        requires waits { pen.old.waiting ≡ [] }
         requires room { self.line < 2 ^ 60 + 2 }
         requires few { self.refused ≤ 2 * self.line }
-        ensures same { pen.new.name ≡ pen.old.name }
+        ensures tells { OnlyTells (P.story dialogue.old) (P.story dialogue.new)
+            (P.sides dialogue.old) (P.sides dialogue.new) }
         ensures fault { IfErr result.1 IsOutputFault }
         ensures ended { (every : Option ℕ) (old : Story) (turns : List Turn)
             → SoFar D.honest D.story every old turns self
             → (end : List Turn) × RepliesToAll D.honest old (D.story result.0) (turns ++ end)
             × CommitsIfDue (rides_after false turns) (self.line + 1) end
             × IfOk result.1 (λ refused. refused ≡ refused_in (turns ++ end))
-            × Prints pen.old.held pen.new.held result.1 end }
+            × Prints (told (P.story dialogue.old)) (told (P.story dialogue.new)) result.1 end }
     {
         if !is_riding(&self.ride) {
             let refused = self.refused;
             return (self.into_disk(), Ok(refused));
         }
         let commit = commit_at(self.line + 1);
-        let (session, printed) = self.ask(&commit, pen);
+        let (session, printed) = self.ask(&commit, dialogue);
         let refused = session.refused;
         match printed {
             Ok(()) => (session.into_disk(), Ok(refused)),

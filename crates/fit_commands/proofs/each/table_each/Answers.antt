@@ -1,16 +1,20 @@
 use Rattle.std.proofs.Common.{List, map, sym, subst, inr, Global}
 use Rattle.std.specs.Prelude.{String, string_bytes}
-use Rattle.fit_commands.specs.Each.{AreNamesOf}
+use Rattle.fit_commands.specs.Each.{AreNamesOf, TablesEach}
+use Rattle.fit_commands.proofs.Written.{stops}
 use Rattle.fit_commands.proofs.each.table_each.Goals as goal
 
-pub returns : goal.returns
-returns g c = record {
-  lines = inr (
-    map string_bytes c.as_slice.result.now,
-    subst (λ (l : List (String Global)). AreNamesOf (map (λ word. word.now) c.args.names.now.all.items) (map string_bytes l))
-        (sym c.as_slice.ensures.value) c.in_ok-all.ensures.names,
-    _,
-    c.in-Ok.ensures.text.all,
-    inr (c.in-Err.ensures.fault, c.in-Err.ensures.lines),
-  );
-}
+pub returns-in_err-table_all : goal.returns-in_err-table_all
+returns-in_err-table_all g c =
+    let words = map (λ word. word.now) c.args.names.now.all.items in
+    record {
+      lines = subst (TablesEach c.args.layout.now (g.F.NamedFiles.held c.args.files.now) words (g.O.Write.contents c.args.out.now) (g.O.Write.contents c.table_all.new.out))
+          (sym (stops _ _ c.from_residual-in_err-table_all.ensures))
+          (inr (
+            map string_bytes c.as_slice.result.now,
+            subst (λ (names : List (String Global)). AreNamesOf words (map string_bytes names)) (sym c.as_slice.ensures.value) c.in_ok-all.ensures.names,
+            _,
+            c.in-Ok.ensures.text.all,
+            inr (c.in_err-table_all.ensures.fault, c.in_err-table_all.ensures.lines),
+          ));
+    }

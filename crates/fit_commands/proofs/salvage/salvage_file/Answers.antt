@@ -33,8 +33,8 @@ returns-in_err-heard g c =
     ))
     c.in_err-heard.ensures
 
-pub returns-in-Err : goal.returns-in-Err
-returns-in-Err g c =
+pub returns-in_err-reported : goal.returns-in_err-reported
+returns-in_err-reported g c =
     let like = c.in_ok-like.like in
     let kept = c.in_ok-kept.kept in
     let wrote = c.in_ok-heard.ensures in
@@ -45,7 +45,7 @@ returns-in-Err g c =
       wrote.0,
       (kept_lines kept ++ heard_line c.in_ok-heard.heard) ++ like_text like,
       (refl, refl),
-      inr (search rules, wrote.2),
+      search rules,
     )
 
 pub returns : goal.returns
@@ -61,5 +61,5 @@ returns g c =
       (kept_lines kept ++ heard_line c.in_ok-heard.heard) ++ like_text like,
       (refl, refl),
       ends_printed wrote.0 (kept_lines kept ++ heard_line c.in_ok-heard.heard) (like_text like) _ _ _ _ _ _ c.print_like.result wrote.2
-          c.in-Ok.ensures.lines.all c.print_like.ensures.line c.print_like.ensures.fault,
+          (search rules) c.print_like.ensures.line c.print_like.ensures.fault,
     )

@@ -46,18 +46,6 @@ returns-in_err-write_whole g c =
       stops_unwritten _ _ _ _ _ _ _ _ (stops _ _ c.from_residual-in_err-write_whole.ensures) c.in_err-write_whole.ensures,
     )
 
-pub returns-in-Ok : goal.returns-in-Ok
-returns-in-Ok g c =
-    let saved = c.in_ok-saved.saved in
-    inr (
-      saved,
-      (c.in_ok-read.read, c.in_ok-read.ensures.data, c.in_ok-read.journal_bytes.items, c.in_ok-read.ensures.journal, c.in_ok-saved.ensures.ride),
-      encoded saved.file,
-      summary_text saved.summary ++ codes "\n",
-      (refl, refl),
-      (c.in_ok-write_whole.ensures, c.in-Ok.ensures.line.all),
-    )
-
 pub returns : goal.returns
 returns g c =
     let saved = c.in_ok-saved.saved in
@@ -67,5 +55,5 @@ returns g c =
       encoded saved.file,
       summary_text saved.summary ++ codes "\n",
       (refl, refl),
-      inr (search rules, c.in_ok-write_whole.ensures),
+      search rules,
     )

@@ -1,5 +1,4 @@
 use Rattle.std.proofs.Common.{[], arith}
-use Rattle.fit_text.proofs.PenLemmas.{puts_written}
 use Rattle.fit_runs.specs.Rides.Turns.{Asked, times_after}
 use Rattle.fit_runs.proofs.Reported.Recorded.{prints_one, so_far_asked, ends_at}
 use Rattle.fit_runs.proofs.recording.session.Session.ask.Goals as goal
@@ -16,6 +15,5 @@ returns-clause-asked g c = λ every old turns known.
           (omega (arith, c.refusals.ensures.count c.args.event.now last)) (noted.shows every (times_after [] turns) known.clock) (λ honest. (ran.goes honest).step) ran.any_moment
           (λ after. ends_at g.D.Disk.honest g.D.Disk.story c.ask-ride.result.0 after last c.last_time.ensures) ran.form,
       noted.due every (times_after [] turns) known.clock,
-      prints_one _ _ _ (Asked c.args.event.now reply last)
-          (puts_written _ _ _ _ c.requires.waits c.print-printed.ensures.none c.print-printed.ensures.line),
+      prints_one _ _ _ (Asked c.args.event.now reply last) c.tell_line-printed.ensures.line,
     )

@@ -1,4 +1,5 @@
 use Rattle.std.proofs.Common.{◌≡◌, ◌+◌, [], ◌∷◌, ◌++◌, append-nil, ap, ◌∙◌, sym, true, false}
+use Rattle.fit_runs.specs.Exchanges.{told}
 use Rattle.fit_runs.specs.Rides.Turns.{Asked, commit_at, refused_in, rides_after}
 use Rattle.fit_runs.proofs.Reported.Recorded.{prints_none, no_commit, one_commit}
 use Rattle.fit_runs.proofs.recording.session.Session.finish.Goals as goal
@@ -10,7 +11,7 @@ returns-then-not-is_riding-clause-ended g c = λ every old turns known.
       rw (append-nil turns) (record { may = known.may; leaves = c.into_disk.ensures every old turns known }),
       no_commit _ (c.args.self.line + 1) none,
       known.counted ∙ ap refused_in (sym (append-nil turns)),
-      prints_none c.args.pen.now.held c.args.self.refused,
+      prints_none (told (g.P.Dialogue.story c.args.dialogue.now)) c.args.self.refused,
     )
 
 pub returns-in-Ok-clause-ended : goal.returns-in-Ok-clause-ended

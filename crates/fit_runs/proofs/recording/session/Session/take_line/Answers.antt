@@ -1,4 +1,5 @@
 use Rattle.std.proofs.Common.{◌≡◌, ◌+◌, Some, None, false, [], ◌∷◌, append-nil, refl, ◌∙◌, inl, inr, sym, arith}
+use Rattle.fit_runs.specs.Exchanges.{told}
 use Rattle.fit_runs.specs.Rides.Turns.{Asked, Faulty}
 use Rattle.fit_runs.proofs.Reported.Recorded.{line_means, none_unless, prints_none, so_far_same, so_far_faulty}
 use Rattle.fit_runs.proofs.recording.session.Session.take_line.Goals as goal
@@ -12,7 +13,7 @@ returns-in-Ok-None-clause-outcome g c = λ bytes every old turns same long known
       [],
       inl (means, refl),
       so_far_same g.D.Disk.honest g.D.Disk.story every old turns _ c.args.self c.at-session.result known (sym (append-nil turns)) ride clock refused,
-      prints_none c.args.pen.now.held (tt {0}),
+      prints_none (told (g.P.Dialogue.story c.args.dialogue.now)) (tt {0}),
     )
 
 pub returns-in-Ok-Some-clause-outcome : goal.returns-in-Ok-Some-clause-outcome
