@@ -80,11 +80,13 @@ class Maker:
         if pick.random() < 0.97:
             self.message(0, {(0, 0): pick.choice([4] * 30 + [6]), (1, 0x84): 1, (4, 0x86): START})
         if pick.random() < 0.5:
-            self.message(12, {(0, 0): pick.choice([0, 1, 2, 5, None]), (1, 0): 0})
+            self.message(12, {(0, 0): pick.choice([0, 1, 2, 5, None]), (1, 0): pick.choice([0, 3, 17, None])})
         rows = [(3, 2), (5, 0x86), (7, 0x84), (73, 0x86), (6, 0x84), (13, 1), (0, 0x85), (1, 0x85), (78, 0x86), (39, 0x84), (3, 0x84),
                 (2, 0x84), (4, 2)]
         kinds = pick.sample(rows, pick.randrange(len(rows) + 1))
         lap = {(254, 0x84): 0, (253, 0x86): 0, (2, 0x86): START}
+        if pick.random() < 0.3:
+            lap[25, 0], lap[39, 0] = pick.choice([0, 1, 2, 5, None]), pick.choice([0, 3, 17, None])
         for _ in range(pick.choice([0, 1, 3, 40, 200])):
             draw = pick.random()
             if draw < 0.86:
@@ -96,9 +98,10 @@ class Maker:
                 self.message(19, lap | {(253, 0x86): self.move()})
             else:
                 self.message(23, {(253, 0x86): self.time, (0, 2): 1})
-        for message, chance in ((19, 0.4), (18, 0.3), (34, 0.3)):
+        for message, chance in ((19, 0.4), (18, 0.3), (18, 0.1), (18, 0.1), (34, 0.3)):
             if pick.random() < chance:
-                self.message(message, {(253, 0x86): self.time} | ({(5, 0): pick.choice([1, 2, 11])} if message == 18 else {}))
+                sport = {(5, 0): pick.choice([1, 2, 11]), (6, 0): pick.choice([0, 1, 2, None])} if message == 18 else {}
+                self.message(message, {(253, 0x86): self.time} | sport)
         return framed(self.bytes)
 
 
@@ -203,6 +206,11 @@ def judge_ride(fitrec, number, lines, cut):
         if kept[-1].startswith("lap"):
             # A recorder adds a lap after the last one. The ride ends with the entry before it.
             wanted = wanted[:-3] + repaired(fitrec, script, new, kept[:-1])[-2:]
+        laps = [line for line in kept if line.startswith("lap")]
+        if laps and kept[-1] == laps[-1].replace("lap", "pause"):
+            # A recorder adds a lap of 0 seconds where the timer stops at the time of the last one.
+            fewer = re.sub(r"(?<=num_laps=)\d+", lambda it: str(int(it[0]) - 1), wanted[-2])
+            wanted = [*wanted[:-3], fewer, wanted[-1]]
         wanted[-2] = with_effort(wanted[-2], kept)
         return "as repaired", differs((said[0], said[2], summaries((place / "out").read_bytes())), (0, "", wanted), lines)
 

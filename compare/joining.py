@@ -12,7 +12,7 @@ from finishing import Maker, recorded, ride
 from programs import read_by_gpsbabel, sample
 from tools.checks import Skipped, differs
 from tools.described import descriptions
-from tools.finished import ENUM, UINT8, UINT16, UINT32, closing, heard, opening, value_of
+from tools.finished import ENUM, UINT8, UINT16, UINT32, closing, heard, opening, stated_sport, value_of
 from tools.fit_files import compressed_ride, framed
 from tools.holes import messages as found_in, numbers
 from tools.needs import missing
@@ -116,7 +116,15 @@ def joined(parts):
             out.append((message, fields, [(given.get(index, index), *others) for index, *others in developer]))
         if place + 1 < len(parts) and times and (not events or events[-1] == 0):
             out.append(timer_event(times[-1], 4))
-    return out
+    return out + sport_added(parts)
+
+
+def sport_added(parts):
+    """A sport message of the first sport that a part states, if no sport message states one."""
+    if any(stated_sport([it]) for part in parts for it in part if it[0] == SPORT):
+        return []
+    pair = next(filter(None, map(stated_sport, parts)), None)
+    return [(SPORT, [(at, (ENUM, False, bytes([it]))) for at, it in enumerate(pair)], [])] if pair else []
 
 
 def texts(found):
@@ -133,10 +141,8 @@ def first_time(part):
 
 
 def sport_of(part):
-    """The first sport that a sport message or a session states."""
-    places = {SPORT: 0, SESSION: 5}
-    stated = [value_of(fields, places[message], ENUM) for message, fields, _ in part if message in places]
-    return next((it for it in stated if it is not None), None)
+    """The first sport that a sport message, a session or a lap states."""
+    return (stated_sport(part) or [None])[0]
 
 
 def in_order(parts):
@@ -263,8 +269,8 @@ def halves(data, *cuts):
 
 
 def without_closing(data):
-    """The messages of a ride without those that sum it up, and without the events of the timer, which a cut adds."""
-    return [(message, fields) for message, fields, _ in stated(data) if message not in (FILE_ID, SESSION, LAP, EVENT, ACTIVITY)]
+    """The messages of a ride without those that sum it up, and without the events of the timer and the sport, which a join adds."""
+    return [(message, fields) for message, fields, _ in stated(data) if message not in (FILE_ID, SPORT, SESSION, LAP, EVENT, ACTIVITY)]
 
 
 def judge_halves(fitrec, folder, case, data, *cuts):
@@ -347,7 +353,9 @@ def compared(fitrec):
     def part(sport, kind, *times):
         maker = Maker(pick)
         if sport is not None:
-            maker.message(*[(SPORT, {(0, ENUM): sport}), (SESSION, {(5, ENUM): sport})][pick.randrange(2)])
+            sub_sport = pick.choice([0, 3, 255])
+            places = [(SPORT, 0, 1), (SESSION, 5, 6), (LAP, 25, 39)]
+            maker.message(*[(message, {(one, ENUM): sport, (other, ENUM): sub_sport}) for message, one, other in places][pick.randrange(3)])
         maker.message(RECORD, {(3, 2): 100})
         for time in times:
             maker.message(kind, {(253, UINT32): START + time})

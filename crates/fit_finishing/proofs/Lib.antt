@@ -3,5 +3,6 @@ mod Kept
 mod Taken
 mod Room
 mod Added
+mod Detailed
 mod Possible
 mod Passes

@@ -16,9 +16,9 @@ use Rattle.fit_activity.specs.Messages.ProfileMessage.{file_id_message, event_me
 use Rattle.fit_activity.specs.Messages.RideMessages.{closing_messages_of, session_with}
 use Rattle.fit_activity.specs.Files.Activity.{has_global, begins_with_file_id, is_activity_file, messages_counted, activity_in, summary_of}
 use Rattle.fit_finishing.specs.declared.closing.Lacks.{Lacks}
-use Rattle.fit_finishing.specs.declared.effort.EffortSummary.{EffortSummary}
-use Rattle.fit_finishing.specs.Effort.{effort_of, with_effort}
-use Rattle.fit_finishing.specs.Lacking.{lacks_in, lacks_lap, is_lacking, laps_stated, laps_finished, opening_for, closing_for}
+use Rattle.fit_finishing.specs.declared.details.Details.{Details}
+use Rattle.fit_finishing.specs.Details.{with_details}
+use Rattle.fit_finishing.specs.Lacking.{goes_on, lacks_in, lacks_lap, is_lacking, number_stated, laps_finished, details_of, opening_for, closing_for}
 use Rattle.fit_finishing.specs.Finished.{IsFinishable}
 
 -- a message that may be there
@@ -28,51 +28,51 @@ counted-if global true m messages = sum_by-cons (λ x. cond (has_global global x
 counted-if global false m messages = omega arith
 
 -- the closing messages that a file lacks
-abbrev added_by : Lacks → EffortSummary → Bool → ℕ → LapSummary → SessionSummary → ActivitySummary → List Message
-added_by lacks effort stopped time lap session activity =
-    filter (is_lacking lacks) (map (with_effort effort) (map as_message (closing_messages_of stopped time lap session activity)))
+abbrev added_by : Lacks → Details → Bool → ℕ → LapSummary → SessionSummary → ActivitySummary → List Message
+added_by lacks details stopped time lap session activity =
+    filter (is_lacking lacks) (map (with_details details) (map as_message (closing_messages_of stopped time lap session activity)))
 
-module _ (lacks : Lacks) (effort : EffortSummary) (time : ℕ) (lap : LapSummary) (session : SessionSummary) (activity : ActivitySummary) where
+module _ (lacks : Lacks) (details : Details) (time : ℕ) (lap : LapSummary) (session : SessionSummary) (activity : ActivitySummary) where
   abbrev here : List Message
-  here = added_by lacks effort true time lap session activity
+  here = added_by lacks details true time lap session activity
 
   -- a stop before them takes none away
-  after-stop : (global : ℕ) (stopped : Bool) → messages_counted global here ≤ messages_counted global (added_by lacks effort stopped time lap session activity)
+  after-stop : (global : ℕ) (stopped : Bool) → messages_counted global here ≤ messages_counted global (added_by lacks details stopped time lap session activity)
   after-stop global true = omega arith
   after-stop global false = omega (arith, counted-if global lacks.stop (as_message (event_message time stop_all_type)) here)
 
   abbrev after_lap : List Message
-  after_lap = filter (is_lacking lacks) (with_effort effort (as_message (session_message session)) ∷ as_message (activity_message activity) ∷ [])
+  after_lap = filter (is_lacking lacks) (with_details details (as_message (session_message session)) ∷ with_details details (as_message (activity_message activity)) ∷ [])
 
   abbrev after_session : List Message
-  after_session = filter (is_lacking lacks) (as_message (activity_message activity) ∷ [])
+  after_session = filter (is_lacking lacks) (with_details details (as_message (activity_message activity)) ∷ [])
 
-  has-lap : (stopped : Bool) → cond lacks.lap 1 0 ≤ messages_counted 19 (added_by lacks effort stopped time lap session activity)
+  has-lap : (stopped : Bool) → cond lacks.lap 1 0 ≤ messages_counted 19 (added_by lacks details stopped time lap session activity)
   has-lap stopped = omega (arith, after-stop 19 stopped, counted-if 19 lacks.lap (as_message (lap_message lap session_end)) after_lap)
 
-  has-session : (stopped : Bool) → cond lacks.session 1 0 ≤ messages_counted 18 (added_by lacks effort stopped time lap session activity)
+  has-session : (stopped : Bool) → cond lacks.session 1 0 ≤ messages_counted 18 (added_by lacks details stopped time lap session activity)
   has-session stopped =
       omega (
         arith,
         after-stop 18 stopped,
         counted-if 18 lacks.lap (as_message (lap_message lap session_end)) after_lap,
-        counted-if 18 lacks.session (with_effort effort (as_message (session_message session))) after_session,
+        counted-if 18 lacks.session (with_details details (as_message (session_message session))) after_session,
       )
 
-  has-activity : (stopped : Bool) → cond lacks.activity 1 0 ≤ messages_counted 34 (added_by lacks effort stopped time lap session activity)
+  has-activity : (stopped : Bool) → cond lacks.activity 1 0 ≤ messages_counted 34 (added_by lacks details stopped time lap session activity)
   has-activity stopped =
       omega (
         arith,
         after-stop 34 stopped,
         counted-if 34 lacks.lap (as_message (lap_message lap session_end)) after_lap,
-        counted-if 34 lacks.session (with_effort effort (as_message (session_message session))) after_session,
-        counted-if 34 lacks.activity (as_message (activity_message activity)) [],
+        counted-if 34 lacks.session (with_details details (as_message (session_message session))) after_session,
+        counted-if 34 lacks.activity (with_details details (as_message (activity_message activity))) [],
       )
 
 -- what there is none of is added
-some-lap : (n sessions heard : ℕ) → 1 ≤ n + cond (lacks_lap n sessions heard) 1 0
-some-lap zero sessions heard = omega arith
-some-lap (suc n) sessions heard = omega arith
+some-lap : (n sessions heard : ℕ) (went_on : Bool) → 1 ≤ n + cond (lacks_lap n sessions heard went_on) 1 0
+some-lap zero sessions heard went_on = omega arith
+some-lap (suc n) sessions heard went_on = omega arith
 
 some-or-none : (n : ℕ) → 1 ≤ n + cond (n == 0) 1 0
 some-or-none zero = omega arith
@@ -117,10 +117,10 @@ passes messages list finishable =
     let lacks = lacks_in messages list in
     let before = opening_for messages list in
     let added = closing_for messages list in
-    let session = session_with (laps_stated (laps_finished lacks messages)) list in
-    let laps = some 19 messages added _ (has-lap lacks (effort_of list) (end_time list) (lap_of list) session (activity_of list) (has_stopped list)) (some-lap (messages_counted 19 messages) (messages_counted 18 messages) (count_by is_lap list)) in
-    let sessions = some 18 messages added _ (has-session lacks (effort_of list) (end_time list) (lap_of list) session (activity_of list) (has_stopped list)) (some-or-none (messages_counted 18 messages)) in
-    let activities = some 34 messages added _ (has-activity lacks (effort_of list) (end_time list) (lap_of list) session (activity_of list) (has_stopped list)) (some-or-none (messages_counted 34 messages)) in
+    let session = session_with (number_stated (laps_finished lacks messages)) list in
+    let laps = some 19 messages added _ (has-lap lacks (details_of messages list) (end_time list) (lap_of list) session (activity_of list) (has_stopped list)) (some-lap (messages_counted 19 messages) (messages_counted 18 messages) (count_by is_lap list) (goes_on list)) in
+    let sessions = some 18 messages added _ (has-session lacks (details_of messages list) (end_time list) (lap_of list) session (activity_of list) (has_stopped list)) (some-or-none (messages_counted 18 messages)) in
+    let activities = some 34 messages added _ (has-activity lacks (details_of messages list) (end_time list) (lap_of list) session (activity_of list) (has_stopped list)) (some-or-none (messages_counted 34 messages)) in
     let begins = begun lacks.file_id (as_message (file_id_message (start_time list) 0)) (messages ++ added) refl refl
     (λ not_added.
     let own = not-false (begins_with_file_id messages) not_added in

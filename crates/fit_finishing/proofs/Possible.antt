@@ -1,6 +1,6 @@
 -- A finished file is a file: what is added to it fits into its bytes, and each message comes after its definition.
 use Rattle.std.proofs.Common.{◌≡◌, ℕ, ◌+◌, ◌<◌, ◌≤◌, ◌^◌, Bool, true, false, cond, List, [], ◌∷◌, ◌++◌, length, map, None, refl, sym, ap, ◌∙◌, subst, arith, append_assoc, append-nil}
-use Rattle.std.specs.Prelude.{zero, suc, flat_map, IsSomeAnd, ◌==◌}
+use Rattle.std.specs.Prelude.{zero, suc, flat_map, IsSomeAnd}
 use Rattle.std.specs.Int.{byte_at, bytes_low_first}
 use Rattle.std.specs.List.{AllByRecursion}
 use Rattle.std.proofs.lemmas.List.{length-map}
@@ -24,15 +24,14 @@ use Rattle.fit_activity.specs.Messages.ProfileMessage.{file_id_message, event_me
 use Rattle.fit_activity.specs.declared.totals.summary.LapSummary.{LapSummary}
 use Rattle.fit_activity.specs.declared.totals.summary.SessionSummary.{SessionSummary}
 use Rattle.fit_activity.specs.declared.totals.summary.ActivitySummary.{ActivitySummary}
-use Rattle.fit_activity.specs.Messages.Numbers.{session_global}
 use Rattle.fit_activity.specs.Messages.MessageBytes.{spelled, message_stated, IsWhole, speech_size}
-use Rattle.fit_activity.specs.Messages.RideMessages.{stop_messages, closing_messages_of, closing_profile_messages_with, session_with}
+use Rattle.fit_activity.specs.Messages.RideMessages.{closing_messages_of, closing_profile_messages_with, session_with}
 use Rattle.fit_finishing.specs.declared.closing.Lacks.{Lacks}
-use Rattle.fit_finishing.specs.declared.effort.EffortSummary.{EffortSummary}
-use Rattle.fit_finishing.specs.Effort.{longer, speech_with}
+use Rattle.fit_finishing.specs.declared.details.Details.{Details}
+use Rattle.fit_finishing.specs.Details.{CanBeDetailed, speech_with}
 use Rattle.fit_finishing.specs.Lacking.{is_lacking, with_definition, added_items}
-use Rattle.fit_finishing.specs.Finished.{HasLocal}
-use Rattle.fit_finishing.proofs.Added.{still-in_force, extended, longer-spelled}
+use Rattle.fit_finishing.proofs.Added.{still-in_force}
+use Rattle.fit_finishing.proofs.Detailed.{session_detailed, activity_detailed, closing_changed, closing-changed}
 
 -- ---- a spelled message fits
 
@@ -109,25 +108,13 @@ fits-spelled m local global few are = record {
   content = content-below field_content (λ field. bytes-below 0 (row_of field.base).size field.value) m.fields;
 }
 
--- the closing messages as they are added
-abbrev closing_extended : EffortSummary → Bool → ℕ → LapSummary → SessionSummary → ActivitySummary → List ProfileMessage
-closing_extended effort stopped time lap session activity =
-    stop_messages stopped time ++ lap_message lap session_end ∷ extended effort (session_message session) ∷ activity_message activity ∷ []
-
-closing-extended : (effort : EffortSummary) (stopped : Bool) (time : ℕ) (lap : LapSummary) (session : SessionSummary) (activity : ActivitySummary)
-    → speech_with effort (map spelled (closing_messages_of stopped time lap session activity)) ≡ map spelled (closing_extended effort stopped time lap session activity)
-closing-extended effort true time lap session activity =
-    ap (λ m. spelled (lap_message lap session_end) ∷ m ∷ spelled (activity_message activity) ∷ []) (longer-spelled effort (session_message session))
-closing-extended effort false time lap session activity =
-    ap (λ m. spelled (event_message time stop_all_type) ∷ spelled (lap_message lap session_end) ∷ m ∷ spelled (activity_message activity) ∷ []) (longer-spelled effort (session_message session))
-
 -- what is added can be written, and has at most so many bytes
 pub record FitsSpeech (speech : List SpokenMessage) (most : ℕ) : Type 0 where
   pub fit : AllByRecursion FitsMessage speech
   pub whole : AllByRecursion IsWhole speech
   pub size : speech_size speech ≤ most
 
-module _ (effort : EffortSummary) (time : ℕ) (lap : LapSummary) (session : SessionSummary) (activity : ActivitySummary) where
+module _ (details : Details) (time : ℕ) (lap : LapSummary) (session : SessionSummary) (activity : ActivitySummary) where
   event-fits : FitsMessage (spelled (event_message time stop_all_type))
   event-fits = fits-spelled (event_message time stop_all_type) (omega arith) (omega arith) (omega arith) (omega arith, (omega arith, (omega arith, tt)))
 
@@ -135,50 +122,71 @@ module _ (effort : EffortSummary) (time : ℕ) (lap : LapSummary) (session : Ses
   lap-fits = fits-spelled (lap_message lap session_end) (omega arith) (omega arith) (omega arith)
       (omega arith, (omega arith, (omega arith, (omega arith, (omega arith, (omega arith, (omega arith, (omega arith, (omega arith, (omega arith, (omega arith, (omega arith, (omega arith, (omega arith, (omega arith, tt)))))))))))))))
 
-  session-fits : FitsMessage (spelled (extended effort (session_message session)))
-  session-fits = fits-spelled (extended effort (session_message session)) (omega arith) (omega arith) (omega arith)
+  session-fits : FitsMessage (spelled (session_detailed details session))
+  session-fits = fits-spelled (session_detailed details session) (omega arith) (omega arith) (omega arith)
       (omega arith, (omega arith, (omega arith, (omega arith, (omega arith, (omega arith, (omega arith, (omega arith, (omega arith, (omega arith, (omega arith, (omega arith, (omega arith, (omega arith, (omega arith, (omega arith, (omega arith, (omega arith, (omega arith, (omega arith, (omega arith, (omega arith, tt))))))))))))))))))))))
 
-  activity-fits : FitsMessage (spelled (activity_message activity))
-  activity-fits = fits-spelled (activity_message activity) (omega arith) (omega arith) (omega arith) (omega arith, (omega arith, (omega arith, (omega arith, (omega arith, (omega arith, tt))))))
+  activity-fits : FitsMessage (spelled (activity_detailed details activity))
+  activity-fits = fits-spelled (activity_detailed details activity) (omega arith) (omega arith) (omega arith) (omega arith, (omega arith, (omega arith, (omega arith, (omega arith, (omega arith, tt))))))
 
-  extended-fit : (stopped : Bool) → FitsSpeech (map spelled (closing_extended effort stopped time lap session activity)) 265
-  extended-fit true = record {
+  changed-fit : (stopped : Bool) → FitsSpeech (map spelled (closing_changed details stopped time lap session activity)) 265
+  changed-fit true = record {
     fit = (lap-fits, (session-fits, (activity-fits, tt)));
     whole = (refl, (refl, (refl, tt)));
     size = omega arith;
   }
-  extended-fit false = record {
+  changed-fit false = record {
     fit = (event-fits, (lap-fits, (session-fits, (activity-fits, tt))));
     whole = (refl, (refl, (refl, (refl, tt))));
     size = omega arith;
   }
 
-pub closing-fits : (effort : EffortSummary) (laps : ℕ) (list : List Recorded) (speech : List SpokenMessage) → speech ≡ map spelled (closing_profile_messages_with laps list)
-    → FitsSpeech (speech_with effort speech) 265
-closing-fits effort laps list speech is =
+pub closing-fits : (details : Details) (laps : ℕ) (list : List Recorded) (speech : List SpokenMessage) → speech ≡ map spelled (closing_profile_messages_with laps list)
+    → FitsSpeech (speech_with details speech) 265
+closing-fits details laps list speech is =
     let session = session_with laps list in
-    let same = ap (speech_with effort) is ∙ closing-extended effort (has_stopped list) (end_time list) (lap_of list) session (activity_of list) in
-    subst (λ xs. FitsSpeech xs 265) (sym same) (extended-fit effort (end_time list) (lap_of list) session (activity_of list) (has_stopped list))
+    let same = ap (speech_with details) is ∙ closing-changed details (has_stopped list) (end_time list) (lap_of list) session (activity_of list) in
+    subst (λ xs. FitsSpeech xs 265) (sym same) (changed-fit details (end_time list) (lap_of list) session (activity_of list) (has_stopped list))
 
-pub opening-fits : (effort : EffortSummary) (time serial : ℕ) (speech : List SpokenMessage) → speech ≡ spelled (file_id_message time serial) ∷ []
-    → FitsSpeech (speech_with effort speech) 35
-opening-fits effort time serial speech is =
+pub opening-fits : (details : Details) (time serial : ℕ) (speech : List SpokenMessage) → speech ≡ spelled (file_id_message time serial) ∷ []
+    → FitsSpeech (speech_with details speech) 35
+opening-fits details time serial speech is =
     let own = spelled (file_id_message time serial) ∷ [] in
     let fits : FitsSpeech own 35 = record {
       fit = (fits-spelled (file_id_message time serial) (omega arith) (omega arith) (omega arith) (omega arith, (omega arith, (omega arith, (omega arith, (omega arith, tt))))), tt);
       whole = (refl, tt);
       size = omega arith;
     } in
-    subst (λ xs. FitsSpeech xs 35) (sym (ap (speech_with effort) is)) fits
+    subst (λ xs. FitsSpeech xs 35) (sym (ap (speech_with details) is)) fits
 
-pub fits-local : (effort : EffortSummary) (speech : List SpokenMessage) → AllByRecursion FitsMessage (speech_with effort speech) → AllByRecursion HasLocal speech
-fits-local effort [] fit = tt
-fits-local effort (m ∷ speech) fit = (go (m.definition.global == session_global) fit.0, fits-local effort speech fit.1)
-  where
-    go : (b : Bool) → FitsMessage (cond b (longer effort m) m) → HasLocal m
-    go true fit = fit.local
-    go false fit = fit.local
+-- the messages have the bytes in which their details are written
+module _ (time : ℕ) (lap : LapSummary) (session : SessionSummary) (activity : ActivitySummary) where
+  event-can : CanBeDetailed (spelled (event_message time stop_all_type))
+  event-can = record { local = omega arith; short = omega arith; session = λ is. absurd (omega (arith, is)); activity = λ is. absurd (omega (arith, is)) }
+
+  lap-can : CanBeDetailed (spelled (lap_message lap session_end))
+  lap-can = record { local = omega arith; short = omega arith; session = λ is. absurd (omega (arith, is)); activity = λ is. absurd (omega (arith, is)) }
+
+  session-can : CanBeDetailed (spelled (session_message session))
+  session-can = record { local = omega arith; short = omega arith; session = λ is. omega arith; activity = λ is. absurd (omega (arith, is)) }
+
+  activity-can : CanBeDetailed (spelled (activity_message activity))
+  activity-can = record { local = omega arith; short = omega arith; session = λ is. absurd (omega (arith, is)); activity = λ is. omega arith }
+
+  all-can : (stopped : Bool) → AllByRecursion CanBeDetailed (map spelled (closing_messages_of stopped time lap session activity))
+  all-can true = (lap-can, (session-can, (activity-can, tt)))
+  all-can false = (event-can, (lap-can, (session-can, (activity-can, tt))))
+
+pub closing-can : (laps : ℕ) (list : List Recorded) (speech : List SpokenMessage) → speech ≡ map spelled (closing_profile_messages_with laps list)
+    → AllByRecursion CanBeDetailed speech
+closing-can laps list speech is =
+    subst (AllByRecursion CanBeDetailed) (sym is) (all-can (end_time list) (lap_of list) (session_with laps list) (activity_of list) (has_stopped list))
+
+pub opening-can : (time serial : ℕ) (speech : List SpokenMessage) → speech ≡ spelled (file_id_message time serial) ∷ [] → AllByRecursion CanBeDetailed speech
+opening-can time serial speech is =
+    let one : CanBeDetailed (spelled (file_id_message time serial)) =
+    record { local = omega arith; short = omega arith; session = λ is. absurd (omega (arith, is)); activity = λ is. absurd (omega (arith, is)) } in
+    subst (AllByRecursion CanBeDetailed) (sym is) (one, tt)
 
 -- ---- what is added can stand where it is added
 

@@ -1,17 +1,13 @@
 -- What a session that is added has after the fields of a recorded one: avg_cadence, max_cadence and total_ascent, by the samples of the list.
-use Rattle.std.specs.Prelude.{ℕ, ◌+◌, ◌-◌, ◌/◌, Bool, List, [], ◌∷◌, ◌++◌, map, max, min, Option, Some, None, option_map, nat_lt, nat_le, ◌==◌, ◌||◌, if◌then◌else◌}
+use Rattle.std.specs.Prelude.{ℕ, ◌+◌, ◌-◌, ◌/◌, Bool, List, [], ◌∷◌, max, min, Option, Some, None, option_map, nat_lt, nat_le, ◌||◌, if◌then◌else◌}
 use Rattle.std.specs.List.{filter, filter_map, fold}
 use Rattle.std.specs.Option.{option_or}
 use Rattle.fit_base.specs.declared.base.BaseType.TheVariants.{Uint8, Uint16}
-use Rattle.fit_grammar.specs.Format.Item.{native_definition}
-use Rattle.fit_grammar.specs.Format.Message.{Message}
 use Rattle.fit_activity.specs.declared.recording.entry.Entry.TheVariants.{Sample}
 use Rattle.fit_activity.specs.Rides.Recording.{Recorded, Added}
 use Rattle.fit_activity.specs.Rides.Stretch.{average, greatest}
 use Rattle.fit_activity.specs.Messages.Numbers.{session_global}
-use Rattle.fit_activity.specs.Messages.ProfileField.{ProfileMessage, profile_field_or_invalid, as_message}
-use Rattle.fit_activity.specs.Messages.SpokenMessage.{SpokenMessage}
-use Rattle.fit_activity.specs.Messages.MessageBytes.{spelled}
+use Rattle.fit_activity.specs.Messages.ProfileField.{ProfileMessage, profile_field_or_invalid}
 use Rattle.fit_finishing.specs.declared.climb.Climb.{Climb}
 use Rattle.fit_finishing.specs.declared.effort.EffortSummary.{EffortSummary}
 
@@ -82,25 +78,3 @@ effort_message effort =
           ∷ profile_field_or_invalid 22 Uint16 effort.ascent
           ∷ [];
     }
-
--- a session with these fields after its own; any other message as it is
-abbrev pub with_effort : EffortSummary → Message → Message
-with_effort effort m =
-    if m.global == session_global
-    then record m { fields = m.fields ++ (as_message (effort_message effort)).fields } else m
-
--- the same of a message as it is handed on
-abbrev pub longer : EffortSummary → SpokenMessage → SpokenMessage
-longer effort m =
-    let more = spelled (effort_message effort) in
-    record {
-      definition = native_definition m.definition.local m.definition.arch m.definition.global
-          (m.definition.fields.items ++ more.definition.fields.items);
-      content = m.content ++ more.content;
-    }
-
-abbrev pub spoken_with : EffortSummary → SpokenMessage → SpokenMessage
-spoken_with effort m = if m.definition.global == session_global then longer effort m else m
-
-abbrev pub speech_with : EffortSummary → List SpokenMessage → List SpokenMessage
-speech_with effort speech = map (spoken_with effort) speech

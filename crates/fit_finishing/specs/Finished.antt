@@ -16,7 +16,7 @@ use Rattle.fit_finishing.specs.declared.finishing.Finishing.{Finishing}
 use Rattle.fit_finishing.specs.declared.finishing.FinishFault.{FinishFault}
 use Rattle.fit_finishing.specs.declared.finishing.FinishFault.TheVariants as faults
 use Rattle.fit_finishing.specs.Heard.{heard}
-use Rattle.fit_finishing.specs.Effort.{speech_with}
+use Rattle.fit_finishing.specs.Details.{CanBeDetailed, speech_with}
 use Rattle.fit_finishing.specs.Lacking.{opening_for, closing_for, added_items}
 
 abbrev pub list_of : List Message → List Recorded
@@ -51,22 +51,18 @@ most_closing = 265
 
 -- the items of those of these messages that it adds, and the file with what is added to it
 abbrev pub added_by : Finishing → List SpokenMessage → List Item
-added_by f speech = added_items f.lacks (speech_with f.effort speech)
+added_by f speech = added_items f.lacks (speech_with f.details speech)
 
 abbrev pub finished_by : FileValue → Finishing → FileValue
 finished_by v f = with_items (added_by f f.opening) v (added_by f f.closing)
 
--- its local number is below 16, as in any file
-abbrev pub HasLocal : SpokenMessage → Type 0
-HasLocal m = m.definition.local < 16
-
 -- what is added can be written with the file
 pub record FitsFile (v : FileValue) (f : Finishing) : Type 0 where
-  pub opening_local : AllByRecursion HasLocal f.opening
-  pub opening_size : speech_size (speech_with f.effort f.opening) ≤ most_opening
+  pub opening_can : AllByRecursion CanBeDetailed f.opening
+  pub opening_size : speech_size (speech_with f.details f.opening) ≤ most_opening
   pub opening_added : data_size (added_by f f.opening) ≤ most_opening
-  pub closing_local : AllByRecursion HasLocal f.closing
-  pub closing_size : speech_size (speech_with f.effort f.closing) ≤ most_closing
+  pub closing_can : AllByRecursion CanBeDetailed f.closing
+  pub closing_size : speech_size (speech_with f.details f.closing) ≤ most_closing
   pub closing_added : data_size (added_by f f.closing) ≤ most_closing
   pub room : data_size v.items + most_opening + most_closing < 2 ^ 32
 

@@ -1,18 +1,16 @@
 -- The list that the messages of a file are heard as, message by message.
-use Rattle.std.specs.Prelude.{ℕ, ◌+◌, Bool, false, List, [], ◌∷◌, ◌++◌, Option, Some, None, not, ◌==◌, if◌then◌else◌}
+use Rattle.std.specs.Prelude.{ℕ, ◌+◌, Bool, false, List, [], ◌∷◌, ◌++◌, Option, Some, None, not, if◌then◌else◌}
 use Rattle.std.specs.List.{fold}
-use Rattle.std.specs.Option.{is_none, option_or}
-use Rattle.fit_base.specs.declared.base.BaseType.TheVariants.{Enum}
+use Rattle.std.specs.Option.{is_none}
 use Rattle.fit_grammar.specs.Format.Message.{Message}
 use Rattle.fit_activity.specs.declared.recording.start.Start.{Start}
 use Rattle.fit_activity.specs.declared.recording.start.Sport.{Sport}
-use Rattle.fit_activity.specs.declared.recording.start.Sport.TheVariants.{Generic, Running, Cycling}
+use Rattle.fit_activity.specs.declared.recording.start.Sport.TheVariants.{Generic}
 use Rattle.fit_activity.specs.declared.recording.entry.Entry.{Entry}
 use Rattle.fit_activity.specs.declared.recording.entry.Entry.TheVariants.{Lap, Pause, Resume}
 use Rattle.fit_activity.specs.Rides.Recording.{Recorded, Started, Added, entry_time, is_lap}
 use Rattle.fit_activity.specs.Rides.Timer.{runs_now}
 use Rattle.fit_activity.specs.Rides.Refusal.{start_refusal, refusal_of}
-use Rattle.fit_grammar.specs.Format.OneValue.{value_of}
 use Rattle.fit_finishing.specs.Entries.{entry_in}
 
 -- the list so far, which is empty before the start; the end of a lap that no entry followed yet; and how many entries were left out
@@ -83,26 +81,6 @@ message_heard sport h m = heard_if sport (entry_in m) h
 abbrev pub heard_as : Sport → List Message → Heard
 heard_as sport messages = fold (message_heard sport) nothing_heard messages
 
--- the sport that a sport message or a session states; one that a recording does not have is generic
-abbrev pub sport_numbered : ℕ → Sport
-sport_numbered number = if number == 1 then Running else if number == 2 then Cycling else Generic
-
-abbrev pub sport_value : Message → Option ℕ
-sport_value m =
-    if m.global == 12 then value_of Enum 0 m
-    else if m.global == 18 then value_of Enum 5 m
-    else None
-
-abbrev pub first_sport : List Message → Option ℕ
-first_sport [] = None
-first_sport (m ∷ messages) = option_or (sport_value m) (first_sport messages)
-
-abbrev pub sport_by : Option ℕ → Sport
-sport_by None = Generic
-sport_by (Some number) = sport_numbered number
-
-abbrev pub sport_heard : List Message → Sport
-sport_heard messages = sport_by (first_sport messages)
-
+-- The session that is added states the sport of the file, which the list does not need.
 abbrev pub heard : List Message → Heard
-heard messages = heard_as (sport_heard messages) messages
+heard messages = heard_as Generic messages

@@ -6,7 +6,7 @@ ghost use Rattle.fit_activity.specs.Rides.Recording.{Recorded};
 ghost use Rattle.fit_activity.specs.Rides.RunningTotals.{AreTotals};
 ghost use Rattle.fit_activity.specs.Files.Activity.{begins_with_file_id as file_id_begins, messages_counted};
 ghost use Rattle.fit_activity.specs.Messages.MessageBytes.{message_stated};
-ghost use Rattle.fit_finishing.specs.Lacking.{added_lap, lacks_in as lacks_of, lacks_lap as open_lap_lacks, is_lacking, laps_finished, laps_stated};
+ghost use Rattle.fit_finishing.specs.Lacking.{added_one, goes_on, lacks_in as lacks_of, lacks_lap as open_lap_lacks, is_lacking, laps_finished, number_stated, sessions_finished};
 
 use fit_activity::{SpokenMessage, Totals};
 use fit_grammar::LentFile;
@@ -30,7 +30,12 @@ pub(crate) fn lacks_in(file: &LentFile<'_>, totals: &Totals) -> Lacks
     Lacks {
         file_id: !begins_with_file_id(file),
         stop: totals.running() && sessions == 0,
-        lap: lacks_lap(count_of(file, 19), sessions, u32::from(totals.lap().index)),
+        lap: lacks_lap(
+            count_of(file, 19),
+            sessions,
+            u32::from(totals.lap().index),
+            went_on(totals),
+        ),
         session: sessions == 0,
         activity: count_of(file, 34) == 0,
     }
@@ -48,24 +53,38 @@ fn begins_with_file_id(file: &LentFile<'_>) -> bool
 
 // How many laps the finished file has, as its session states it.
 pub(crate) fn laps_of(file: &LentFile<'_>, lacks: Lacks) -> u16
-    ensures { result ≡ laps_stated (laps_finished lacks (messages_of file.now.items)) }
+    ensures { result ≡ number_stated (laps_finished lacks (messages_of file.now.items)) }
 {
-    stated_laps(count_of(file, 19), lacks.lap)
+    stated(count_of(file, 19), lacks.lap)
 }
 
-// The number of so many laps and of one that is added, in two bytes.
-fn stated_laps(laps: u32, added: bool) -> u16
-    ensures { result ≡ laps_stated (laps + added_lap added) }
+// How many sessions it has, as its activity message states them.
+pub(crate) fn sessions_of(file: &LentFile<'_>, lacks: Lacks) -> u16
+    ensures { result ≡ number_stated (sessions_finished lacks (messages_of file.now.items)) }
 {
-    let laps = laps.min(65_535) as u16;
-    if added { laps.saturating_add(1) } else { laps }
+    stated(count_of(file, 18), lacks.session)
+}
+
+// The number of so many and of one that is added, in two bytes.
+fn stated(own: u32, added: bool) -> u16
+    ensures { result ≡ number_stated (own + added_one added) }
+{
+    let own = own.min(65_535) as u16;
+    if added { own.saturating_add(1) } else { own }
+}
+
+// Whether the ride went on after its last lap.
+fn went_on(totals: &Totals) -> bool
+    ensures { (list : List Recorded) → AreTotals totals.now list → result ≡ goes_on list }
+{
+    totals.running() || totals.lap().stretch.elapsed > 0
 }
 
 // Whether a file lacks the open lap, if it has so many laps and sessions, and so many of its laps were heard.
-fn lacks_lap(laps: u32, sessions: u32, heard: u32) -> bool
-    ensures { result ≡ open_lap_lacks laps sessions heard }
+fn lacks_lap(laps: u32, sessions: u32, heard: u32, went_on: bool) -> bool
+    ensures { result ≡ open_lap_lacks laps sessions heard went_on }
 {
-    laps == 0 || sessions == 0 && laps <= heard
+    laps == 0 || sessions == 0 && laps <= heard && went_on
 }
 
 // How many messages of this global number a file has.

@@ -10,12 +10,12 @@ ghost use Rattle.fit_activity.specs.Rides.RunningTotals.{AreTotals};
 ghost use Rattle.fit_finishing.specs.Finished.{FitsFile, IsFinishable, IsFinishing, IsNotFinished, finished_by};
 
 use crate::adding::write_lacking;
-use crate::closing::{Lacks, lacks_in, laps_of};
-use crate::effort::EffortSummary;
+use crate::closing::{Lacks, lacks_in, laps_of, sessions_of};
+use crate::details::Details;
 use crate::hearing::{Hearing, hear};
 use crate::sport::sport_in;
 use fit_activity::{
-    ActivityFault, Speech, Totals, check_activity, speak_closing_with, speak_file_id,
+    ActivityFault, Speech, Sport, Totals, check_activity, speak_closing_with, speak_file_id,
 };
 use fit_grammar::{File, LentFile, Sink, encode_extended, encode_file_extended};
 
@@ -24,13 +24,13 @@ const MOST_OPENING: u32 = 35;
 
 const MOST_CLOSING: u32 = 265;
 
-/// What finishes an activity: its file_id and its closing messages, the cadence and the ascent that its session has besides, which of the
-/// messages its file lacks, and how many entries were heard.
+/// What finishes an activity: its file_id and its closing messages, what these state beside what a recorder does, which of the messages its
+/// file lacks, and how many entries were heard.
 #[derive(Drop)]
 pub struct Finishing {
     opening: Speech,
     closing: Speech,
-    effort: EffortSummary,
+    details: Details,
     lacks: Lacks,
     /// How many entries were heard and taken, without the start.
     pub taken: u32,
@@ -58,7 +58,7 @@ impl Finishing {
         if !is_finishable(file) {
             return Err(FinishFault::NotActivity);
         }
-        let Hearing::Riding(ride) = hear(file, sport_in(file)) else {
+        let Hearing::Riding(ride) = hear(file, Sport::Generic) else {
             return Err(FinishFault::NoSample);
         };
         if !ride.sampled {
@@ -70,13 +70,19 @@ impl Finishing {
         // Each item of a file can be written.
         let _frame = file.frame();
         let lacks = lacks_in(file, &ride.totals);
+        let details = Details {
+            sport: sport_in(file),
+            effort: ride.effort.summary(),
+            sessions: sessions_of(file, lacks),
+        }
+        .in_fields();
         let (mut opening, mut closing) = (Speech::new(), Speech::new());
         speak_file_id(first_time(&ride.totals), 0, &mut opening);
         speak_closing_with(&ride.totals, laps_of(file, lacks), &mut closing);
         Ok(Finishing {
             opening,
             closing,
-            effort: ride.effort.summary(),
+            details,
             lacks,
             taken: ride.taken,
             left_out: ride.left_out,
@@ -98,8 +104,8 @@ impl Finishing {
     {
         let mut before = [0; MOST_OPENING as usize];
         let mut after = [0; MOST_CLOSING as usize];
-        let first = write_lacking(&self.opening, self.effort, self.lacks, &mut before);
-        let last = write_lacking(&self.closing, self.effort, self.lacks, &mut after);
+        let first = write_lacking(&self.opening, self.details, self.lacks, &mut before);
+        let last = write_lacking(&self.closing, self.details, self.lacks, &mut after);
         encode_extended(&before[..first], file, &after[..last], out)
     }
 
@@ -111,8 +117,8 @@ impl Finishing {
     {
         let mut before = [0; MOST_OPENING as usize];
         let mut after = [0; MOST_CLOSING as usize];
-        let first = write_lacking(&self.opening, self.effort, self.lacks, &mut before);
-        let last = write_lacking(&self.closing, self.effort, self.lacks, &mut after);
+        let first = write_lacking(&self.opening, self.details, self.lacks, &mut before);
+        let last = write_lacking(&self.closing, self.details, self.lacks, &mut after);
         encode_file_extended(&before[..first], file, &after[..last], out)
     }
 }

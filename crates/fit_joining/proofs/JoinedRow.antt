@@ -19,18 +19,19 @@ use Rattle.fit_grammar.proofs.Encoder.Encoded.{framed_is_file, framed_items}
 use Rattle.fit_grammar.proofs.Encoder.Encoding.{encoded_spells}
 use Rattle.fit_grammar.proofs.KeptRow.InForce.{in_force-append, in_force-data, in_force-defines}
 use Rattle.fit_grammar.proofs.KeptRow.Lent.{lent_messages, lent_under}
+use Rattle.fit_finishing.specs.declared.sport.SportStated.{SportStated}
 use Rattle.fit_joining.specs.declared.part.Part.{Part}
 use Rattle.fit_joining.specs.declared.tally.Tally.{Tally}
 use Rattle.fit_joining.specs.Part.{changed, part, stays, tally_after, tally_before, tally_past}
 use Rattle.fit_joining.specs.Timer.{event_at, span_of, start_due, stop_due, timer_message}
-use Rattle.fit_joining.specs.Joined.{first_tally, is_followed, joined_after, joined_messages, joined_one, laps_stay, next_tally}
+use Rattle.fit_joining.specs.Joined.{first_tally, is_followed, joined_after, joined_messages, joined_one, laps_stay, next_tally, sport_added, sport_due}
 use Rattle.fit_joining.specs.Content.{content_changed}
-use Rattle.fit_joining.specs.Events.{event_content, event_definition}
+use Rattle.fit_joining.specs.Events.{event_content, event_definition, sport_content, sport_definition}
 use Rattle.fit_joining.specs.Makers.{Maker, declared_past, no_makers}
-use Rattle.fit_joining.specs.JoinedItems.{data_changed, definition_given, event_items, items_after, joined_file, joined_items, one_items, part_items}
+use Rattle.fit_joining.specs.JoinedItems.{data_changed, definition_given, event_items, items_after, joined_file, joined_items, one_items, own_messages, part_items, parts_items, sport_items}
 use Rattle.fit_joining.specs.Private.Row.{IsWhole}
 use Rattle.fit_joining.proofs.ChangedMessage.{message_again, content_length, size_given}
-use Rattle.fit_joining.proofs.EventMessage.{event_stated}
+use Rattle.fit_joining.proofs.EventMessage.{event_stated, sport_stated}
 use Rattle.fit_joining.proofs.WrittenRow.{lent_whole}
 
 -- ---- one more item
@@ -145,6 +146,18 @@ event_grows : (before : List Item) (time : Option ℕ) (type : ℕ) → Grown be
 event_grows before None type = grown_same (grown_none before) (sym (append-nil before)) refl
 event_grows before (Some time) type = one_event before time type
 
+-- ---- the sport
+
+sport_grows : (before : List Item) (sport : Option SportStated) → Grown before (before ++ sport_items sport) (sport_added sport)
+sport_grows before None = grown_same (grown_none before) (sym (append-nil before)) refl
+sport_grows before (Some s) =
+    let defined = before ++ Defines sport_definition ∷ [] in
+    grown_same
+    (grown_then (define_grows before sport_definition (omega arith))
+    (data_grows defined 0 (sport_content s) sport_definition (in_force-defines before sport_definition) (omega arith) refl))
+    (append_assoc before (Defines sport_definition ∷ []) (Data 0 None (sport_content s) ∷ []))
+    (ap (λ (m : Message). m ∷ []) (sport_stated s))
+
 -- ---- a part
 
 -- each definition that is in force in the part is so in the row, its developer fields with the indices that are given to them
@@ -248,8 +261,10 @@ all_grow makers before t (p ∷ parts) can plain =
 
 joined_grows : (parts : List Part) → AllByRecursion (λ p. CanBeFile p.file) parts
     → AllByRecursion (λ p. AllByRecursion IsPlain p.file.items) parts
-    → Grown [] (joined_items parts) (joined_messages (map (λ p. messages_of p.file.items) parts))
-joined_grows parts can plain = all_grow no_makers [] (first_tally (laps_stay (map (λ p. messages_of p.file.items) parts))) parts can plain
+    → Grown [] (joined_items parts) (joined_messages (own_messages parts))
+joined_grows parts can plain =
+    let all = own_messages parts in
+    grown_then (all_grow no_makers [] (first_tally (laps_stay all)) parts can plain) (sport_grows (parts_items parts) (sport_due all))
 
 -- of the joined file
 

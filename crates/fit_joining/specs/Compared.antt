@@ -1,8 +1,8 @@
 -- What is compared of the parts of an activity: their sports and their times.
-use Rattle.std.specs.Prelude.{ℕ, ◌+◌, Bool, true, false, not, List, [], ◌∷◌, max, Option, Some, None, ◌==◌, nat_lt, if◌then◌else◌}
+use Rattle.std.specs.Prelude.{ℕ, ◌+◌, Bool, true, false, not, List, [], ◌∷◌, max, Option, Some, None, option_map, ◌==◌, nat_lt, if◌then◌else◌}
 use Rattle.std.specs.Option.{option_or}
 use Rattle.fit_grammar.specs.Format.Message.{Message, messages_of}
-use Rattle.fit_finishing.specs.Heard.{first_sport}
+use Rattle.fit_finishing.specs.Sports.{first_sport}
 use Rattle.fit_joining.specs.declared.misfit.Misfit.{Misfit}
 use Rattle.fit_joining.specs.declared.misfit.MisfitKind.{MisfitKind}
 use Rattle.fit_joining.specs.declared.misfit.MisfitKind.TheVariants.{OtherSport, Overlap}
@@ -23,7 +23,7 @@ abbrev pub last_time : Part → Option ℕ
 last_time part = (span_of true (messages_of part.file.items)).last
 
 abbrev pub sport_of : Part → Option ℕ
-sport_of part = first_sport (messages_of part.file.items)
+sport_of part = option_map (λ stated. stated.sport) (first_sport (messages_of part.file.items))
 
 -- ---- what some parts state
 

@@ -1,7 +1,12 @@
 -- The messages of several parts as one activity.
-use Rattle.std.specs.Prelude.{ℕ, Bool, true, false, List, [], ◌∷◌, ◌++◌, Option, ◌==◌, ◌&&◌, ◌||◌}
+use Rattle.std.specs.Prelude.{ℕ, Bool, true, false, List, [], ◌∷◌, ◌++◌, Option, Some, None, ◌==◌, ◌&&◌, ◌||◌, if◌then◌else◌}
 use Rattle.std.specs.List.{list_any}
+use Rattle.std.specs.Option.{is_some, option_or}
+use Rattle.fit_base.specs.declared.base.BaseType.TheVariants.{Enum}
 use Rattle.fit_grammar.specs.Format.Message.{Message}
+use Rattle.fit_grammar.specs.Calls.LentField.{field_with}
+use Rattle.fit_finishing.specs.declared.sport.SportStated.{SportStated}
+use Rattle.fit_finishing.specs.Sports.{first_sport, sport_value}
 use Rattle.fit_joining.specs.declared.tally.Tally.{Tally}
 use Rattle.fit_joining.specs.Makers.{Maker, declared_past, no_makers}
 use Rattle.fit_joining.specs.Part.{part, tally_before, tally_past}
@@ -51,5 +56,37 @@ joined_after makers t (own ∷ parts) =
     joined_one (declared_past makers own).given (tally_before t own) (is_followed parts) own
     ++ joined_after (declared_past makers own).makers (next_tally (tally_past (tally_before t own) own)) parts
 
+-- ---- the sport
+
+-- a sport message of the part states it
+abbrev pub tells_sport : List Message → Bool
+tells_sport [] = false
+tells_sport (m ∷ messages) = ((m.global == 12) && is_some (sport_value m)) || tells_sport messages
+
+-- Sessions are left out, and laps may be. So where no sport message states the sport, the first one that a part states is added.
+abbrev pub sport_after : Option SportStated → List (List Message) → Option SportStated
+sport_after sport [] = sport
+sport_after sport (own ∷ parts) =
+    if tells_sport own then None else sport_after (option_or sport (first_sport own)) parts
+
+abbrev pub sport_due : List (List Message) → Option SportStated
+sport_due parts = sport_after None parts
+
+-- sport: sport, sub_sport
+abbrev pub sport_message : SportStated → Message
+sport_message s =
+    record {
+      global = 12;
+      fields = field_with 0 Enum s.sport ∷ field_with 1 Enum s.sub_sport ∷ [];
+      developer = [];
+    }
+
+abbrev pub sport_added : Option SportStated → List Message
+sport_added None = []
+sport_added (Some s) = sport_message s ∷ []
+
+-- ---- all of them
+
 abbrev pub joined_messages : List (List Message) → List Message
-joined_messages parts = joined_after no_makers (first_tally (laps_stay parts)) parts
+joined_messages parts =
+    joined_after no_makers (first_tally (laps_stay parts)) parts ++ sport_added (sport_due parts)

@@ -4,16 +4,17 @@ use Rattle.fit_grammar.specs.declared.definition.Definition.{Definition}
 use Rattle.fit_grammar.specs.declared.definition.DeveloperFieldDefinition.{DeveloperFieldDefinition}
 use Rattle.fit_grammar.specs.Format.Item.{Item, Defines, Data}
 use Rattle.fit_grammar.specs.Format.File.{FileValue}
-use Rattle.fit_grammar.specs.Format.Message.{messages_of}
+use Rattle.fit_grammar.specs.Format.Message.{Message, messages_of}
 use Rattle.fit_grammar.specs.Calls.LentItem.{LentItem, LentData, DefinesHere, DataHere, items_lent, message_here}
+use Rattle.fit_finishing.specs.declared.sport.SportStated.{SportStated}
 use Rattle.fit_joining.specs.declared.part.Part.{Part}
 use Rattle.fit_joining.specs.declared.tally.Tally.{Tally}
 use Rattle.fit_joining.specs.Makers.{Maker, declared_past, index_in, no_makers}
 use Rattle.fit_joining.specs.Part.{stays, tally_after, tally_before, tally_past}
 use Rattle.fit_joining.specs.Timer.{span_of, start_due, stop_due}
-use Rattle.fit_joining.specs.Joined.{first_tally, is_followed, laps_stay, next_tally}
+use Rattle.fit_joining.specs.Joined.{first_tally, is_followed, laps_stay, next_tally, sport_due}
 use Rattle.fit_joining.specs.Content.{content_changed}
-use Rattle.fit_joining.specs.Events.{event_definition, event_content}
+use Rattle.fit_joining.specs.Events.{event_definition, event_content, sport_definition, sport_content}
 
 -- ---- a part
 
@@ -74,9 +75,19 @@ items_after makers t (part ∷ parts) =
     ++ items_after (declared_past makers (messages_of part.file.items)).makers
     (next_tally (tally_past (tally_before t (messages_of part.file.items)) (messages_of part.file.items))) parts
 
+abbrev pub own_messages : List Part → List (List Message)
+own_messages parts = map (λ part. messages_of part.file.items) parts
+
+abbrev pub parts_items : List Part → List Item
+parts_items parts = items_after no_makers (first_tally (laps_stay (own_messages parts))) parts
+
+-- the sport, with its definition
+abbrev pub sport_items : Option SportStated → List Item
+sport_items None = []
+sport_items (Some s) = Defines sport_definition ∷ Data 0 None (sport_content s) ∷ []
+
 abbrev pub joined_items : List Part → List Item
-joined_items parts =
-    items_after no_makers (first_tally (laps_stay (map (λ p. messages_of p.file.items) parts))) parts
+joined_items parts = parts_items parts ++ sport_items (sport_due (own_messages parts))
 
 -- the file of them, with the frame of the first
 abbrev pub joined_file : Part → List Part → FileValue

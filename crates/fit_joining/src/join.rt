@@ -16,7 +16,7 @@ ghost use Rattle.fit_joining.specs.Makers.{index_in};
 ghost use Rattle.fit_joining.specs.Part.{tally_past};
 ghost use Rattle.fit_joining.specs.Joined.{is_followed as is_followed_by, joined_messages, next_tally};
 ghost use Rattle.fit_joining.specs.Content.{content_changed};
-ghost use Rattle.fit_joining.specs.JoinedItems.{counted, definition_given, developer_given, item_joined, joined_file, joined_items, one_items, part_items};
+ghost use Rattle.fit_joining.specs.JoinedItems.{counted, definition_given, developer_given, item_joined, joined_file, joined_items, one_items, part_items, parts_items};
 ghost use Rattle.fit_joining.specs.Private.Row.{IsWhole, data_lent};
 
 use crate::content::put_content;
@@ -24,6 +24,7 @@ use crate::laps::laps_stay;
 use crate::makers::{Given, Makers, index_in};
 use crate::part::Part;
 use crate::span::span_of;
+use crate::sport::{put_sport, sport_due};
 use crate::tally::Tally;
 use crate::timer::put_event_at;
 use fit_base::Crc;
@@ -44,7 +45,7 @@ pub fn write_joined_records<S: Sink>(
         (encoded_items (joined_file first.now others.now).items) }
 {
     let mut checksum = Crc::new();
-    put_parts(first, others, out, &mut checksum)
+    put_joined(first, others, out, &mut checksum)
 }
 
 /// Writes one file of the parts of an activity, which have no compressed timestamps, in their order; at an `Err`, a prefix of it. Its
@@ -72,9 +73,29 @@ pub fn write_joined<S: Sink>(
 {
     let mut checksum = Crc::new();
     put_header(out, &mut checksum, first.file.frame(), size)?;
-    put_parts(first, others, out, &mut checksum)?;
+    put_joined(first, others, out, &mut checksum)?;
     out.put(&checksum.value().to_le_bytes())?;
     Ok(())
+}
+
+// Writes the records of the joined file.
+fn put_joined<S: Sink>(
+    first: &Part<'_, '_>,
+    others: &[Part<'_, '_>],
+    out: &mut S,
+    checksum: &mut Crc,
+) -> Result<(), S::Fault>
+    requires first { AllByRecursion IsPlain first.now.file.items }
+    requires others { AllByRecursion (λ part. AllByRecursion IsPlain part.file.items) others.now }
+    ensures text { WritesChecked (S.held out.old)
+        (S.held out.new) checksum.old checksum.new result
+        (encoded_items (joined_items (first.now ∷ others.now))) }
+    // Holds of every part.
+    ensures possible { OnOk result
+        (AllByRecursion (λ part. CanBeFile part.file) (first.now ∷ others.now)) }
+{
+    put_parts(first, others, out, checksum)?;
+    put_sport(sport_due(first, others), out, checksum)
 }
 
 // Writes the records of these parts.
@@ -88,7 +109,7 @@ fn put_parts<S: Sink>(
     requires others { AllByRecursion (λ part. AllByRecursion IsPlain part.file.items) others.now }
     ensures text { WritesChecked (S.held out.old)
         (S.held out.new) checksum.old checksum.new result
-        (encoded_items (joined_items (first.now ∷ others.now))) }
+        (encoded_items (parts_items (first.now ∷ others.now))) }
     // Holds of every part.
     ensures possible { OnOk result
         (AllByRecursion (λ part. CanBeFile part.file) (first.now ∷ others.now)) }

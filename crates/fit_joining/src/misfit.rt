@@ -1,8 +1,7 @@
 // The first part that does not go with those before it.
 
 ghost use Rattle.std.specs.Prelude.{◌≡◌, ◌<◌, length, IfSome};
-ghost use Rattle.fit_grammar.specs.Format.Message.{messages_of};
-ghost use Rattle.fit_joining.specs.Compared.{first_misfit, is_before, is_other, later, misfit_by, stated_by};
+ghost use Rattle.fit_joining.specs.Compared.{first_misfit, is_before, is_other, later, misfit_by, sport_of, stated_by};
 
 use crate::part::Part;
 use crate::span::span_of;
@@ -41,7 +40,7 @@ pub fn first_misfit<'n>(parts: &[Part<'n, '_>]) -> Option<Misfit<'n>>
     let mut number = 0;
     let mut rest = parts;
     while let [part, more @ ..] = rest {
-        let sport = first_sport(&part.file);
+        let sport = sport_of(part);
         let span = span_of(true, &part.file);
         if let Some(kind) = stated.misfit(sport, span.first) {
             return Some(Misfit {
@@ -57,16 +56,23 @@ pub fn first_misfit<'n>(parts: &[Part<'n, '_>]) -> Option<Misfit<'n>>
     None
 }
 
+// The number of the first sport that a part states.
+fn sport_of(part: &Part) -> Option<u8>
+    ensures { result ≡ sport_of part.now }
+{
+    Some(first_sport(&part.file)?.sport)
+}
+
 // What some parts state: the first sport, and the latest of the times at which they end.
 #[derive(Clone, Copy)]
 pub(crate) struct Stated {
-    pub(crate) sport: Option<u32>,
+    pub(crate) sport: Option<u8>,
     pub(crate) last: Option<u32>,
 }
 
 impl Stated {
     // With one more part.
-    fn and(self, sport: Option<u32>, last: Option<u32>) -> Stated
+    fn and(self, sport: Option<u8>, last: Option<u32>) -> Stated
         ensures { result ≡ stated_by self sport last }
     {
         Stated {
@@ -76,7 +82,7 @@ impl Stated {
     }
 
     // Why the next part does not go with these.
-    fn misfit(self, sport: Option<u32>, first: Option<u32>) -> Option<MisfitKind>
+    fn misfit(self, sport: Option<u8>, first: Option<u32>) -> Option<MisfitKind>
         ensures { result ≡ misfit_by self sport first }
     {
         if is_other(self.sport, sport) {
@@ -111,7 +117,7 @@ fn is_before(one: Option<u32>, other: Option<u32>) -> bool
 }
 
 // Whether a sport is not the other one, if both are there.
-fn is_other(one: Option<u32>, other: Option<u32>) -> bool
+fn is_other(one: Option<u8>, other: Option<u8>) -> bool
     ensures { result ≡ is_other one other }
 {
     match (one, other) {

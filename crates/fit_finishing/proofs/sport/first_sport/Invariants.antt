@@ -1,5 +1,5 @@
 use Rattle.std.proofs.Common.{◌≡◌}
-use Rattle.fit_finishing.specs.Heard.{first_sport}
+use Rattle.fit_finishing.specs.Sports.{first_sport}
 use Rattle.fit_finishing.proofs.sport.first_sport.Given as goal
 
 abbrev pub invariant-loop-message : goal.invariant-loop-message

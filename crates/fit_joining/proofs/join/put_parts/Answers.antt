@@ -1,9 +1,9 @@
-use Rattle.std.proofs.Common.{◌≡◌, ◌++◌, ◌∷◌, ◌-◌, ◌<◌, ◌≤◌, ℕ, Bool, List, [], length, Option, get_or, take, drop, map, refl, sym, ap, subst, ◌∙◌, arith}
+use Rattle.std.proofs.Common.{◌≡◌, ◌++◌, ◌∷◌, ◌-◌, ◌<◌, ◌≤◌, ℕ, Bool, List, [], length, Option, get_or, take, drop, refl, sym, ap, subst, ◌∙◌, arith}
 use Rattle.std.specs.List.{AllByRecursion}
 use Rattle.std.proofs.lemmas.List.{take_all}
 use Rattle.std.proofs.lemmas.Grind.{flat_map-append}
 use Rattle.fit_grammar.specs.Format.Encoding.{encoded_item, encoded_items}
-use Rattle.fit_grammar.specs.Format.Message.{Message, messages_of}
+use Rattle.fit_grammar.specs.Format.Message.{messages_of}
 use Rattle.fit_grammar.specs.Calls.PlainForm.{IsPlain}
 use Rattle.fit_grammar.specs.Calls.Possible.{CanBeFile}
 use Rattle.fit_joining.specs.declared.part.Part.{Part}
@@ -11,12 +11,9 @@ use Rattle.fit_joining.specs.declared.tally.Tally.{Tally}
 use Rattle.fit_joining.specs.Makers.{Maker, declared_past, no_makers}
 use Rattle.fit_joining.specs.Part.{tally_before, tally_past}
 use Rattle.fit_joining.specs.Joined.{first_tally, is_followed, laps_stay, next_tally}
-use Rattle.fit_joining.specs.JoinedItems.{items_after, joined_items, one_items}
+use Rattle.fit_joining.specs.JoinedItems.{items_after, one_items, own_messages, parts_items}
 use Rattle.fit_joining.proofs.Leaves.{leaves_all, leaves_next, leaves_off, leaves_none}
 use Rattle.fit_joining.proofs.join.put_parts.Goals as goal
-
-abbrev own_messages : List Part → List (List Message)
-own_messages parts = map (λ p. messages_of p.file.items) parts
 
 -- the parts that are left are one and those after it
 split : (parts : List Part) (part : Part) → 1 ≤ length parts → part ≡ get_or parts 0 part → parts ≡ part ∷ take (length parts - 1) (drop 1 parts)
@@ -48,7 +45,7 @@ pieces makers heard given s t u followed parts others part is begun_is given_is 
 
 -- before the first part
 begun : (makers : List (Option Maker)) (t : Tally) (keeps : Bool) (parts : List Part) → makers ≡ no_makers → t ≡ first_tally keeps
-    → keeps ≡ laps_stay (own_messages parts) → encoded_items (joined_items parts) ≡ encoded_items (items_after makers t parts)
+    → keeps ≡ laps_stay (own_messages parts) → encoded_items (parts_items parts) ≡ encoded_items (items_after makers t parts)
 begun makers t keeps parts none is keeps_is =
     ap (λ (m : List (Option Maker)). encoded_items (items_after m (first_tally (laps_stay (own_messages parts))) parts)) (sym none)
     ∙ ap (λ (k : Tally). encoded_items (items_after makers k parts)) (sym (is ∙ ap first_tally keeps_is))
@@ -67,7 +64,7 @@ returns-in_err-now-clause-text g c =
     let none = c.new-makers.result in
     let heard = c.take_part-given.new.self in
     leaves_off c.put_one.new.checksum (encoded_items (items_after heard next others)) c.from_residual.ensures.0
-    (leaves_all (g.S.Sink.held c.args.out.now) c.args.checksum.now (encoded_items (joined_items (first ∷ others)))
+    (leaves_all (g.S.Sink.held c.args.out.now) c.args.checksum.now (encoded_items (parts_items (first ∷ others)))
     (encoded_items (items_after none t (first ∷ others)))
     (begun none t c.laps_stay.result (first ∷ others) c.new-makers.ensures c.first-tally.ensures c.laps_stay.ensures))
     c.in_err-now.ensures.text
@@ -85,7 +82,7 @@ loop-rest-init g c =
       plain = c.requires.others;
       possible = λ all. (c.in_ok-now.ensures.possible, all);
       so_far = leaves_next (encoded_items (items_after heard c.in_ok-now.now others))
-          (leaves_all (g.S.Sink.held c.args.out.now) c.args.checksum.now (encoded_items (joined_items (first ∷ others)))
+          (leaves_all (g.S.Sink.held c.args.out.now) c.args.checksum.now (encoded_items (parts_items (first ∷ others)))
           (encoded_items (items_after none t (first ∷ others)))
           (begun none t c.laps_stay.result (first ∷ others) c.new-makers.ensures c.first-tally.ensures c.laps_stay.ensures))
           c.in_ok-now.ensures.text

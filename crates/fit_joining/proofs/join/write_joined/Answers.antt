@@ -28,14 +28,14 @@ returns-in_err-put_header-clause-text g c =
     writes_same (stops_before c.from_residual.ensures.0 c.in_err-put_header.ensures.writes (records ++ closing))
     (sym (append_assoc header records closing) ∙ whole v c.frame.result c.args.size c.frame.ensures.frame c.requires.size)
 
-pub returns-in_err-put_parts-clause-text : goal.returns-in_err-put_parts-clause-text
-returns-in_err-put_parts-clause-text g c =
+pub returns-in_err-put_joined-clause-text : goal.returns-in_err-put_joined-clause-text
+returns-in_err-put_joined-clause-text g c =
     let v = joined_file c.args.first.now c.args.others.now in
     let records = encoded_items v.items in
     let header = encoded_header c.frame.result c.args.size in
     let closing = two_bytes Little (crc (header ++ records)) in
     writes_same (then_writes c.in_ok-put_header.ensures.writes
-    (stops_before c.from_residual-in_err-put_parts.ensures.0 c.in_err-put_parts.ensures.text.writes closing))
+    (stops_before c.from_residual-in_err-put_joined.ensures.0 c.in_err-put_joined.ensures.text.writes closing))
     (sym (append_assoc header records closing) ∙ whole v c.frame.result c.args.size c.frame.ensures.frame c.requires.size)
 
 pub returns-in_err-put-clause-text : goal.returns-in_err-put-clause-text
@@ -43,7 +43,7 @@ returns-in_err-put-clause-text g c =
     let v = joined_file c.args.first.now c.args.others.now in
     let records = encoded_items v.items in
     let header = encoded_header c.frame.result c.args.size in
-    let all = then_checked c.in_ok-put_header.ensures c.in_ok-put_parts.ensures.text in
+    let all = then_checked c.in_ok-put_header.ensures c.in_ok-put_joined.ensures.text in
     let closing = checksum_bytes (header ++ records) c.to_le_bytes.result c.value.result _ _ c.to_le_bytes.ensures c.value.type_inv
     c.value.ensures all.checksum c.new-checksum.ensures in
     writes_same (then_writes all.writes (stops_before c.from_residual-in_err-put.ensures.0 c.in_err-put.ensures []))
@@ -55,7 +55,7 @@ returns-clause-text g c =
     let v = joined_file c.args.first.now c.args.others.now in
     let records = encoded_items v.items in
     let header = encoded_header c.frame.result c.args.size in
-    let all = then_checked c.in_ok-put_header.ensures c.in_ok-put_parts.ensures.text in
+    let all = then_checked c.in_ok-put_header.ensures c.in_ok-put_joined.ensures.text in
     let closing = checksum_bytes (header ++ records) c.to_le_bytes.result c.value.result _ _ c.to_le_bytes.ensures c.value.type_inv
     c.value.ensures all.checksum c.new-checksum.ensures in
     writes_same (text_ok (then_writes all.writes c.in_ok-put.ensures))
@@ -65,12 +65,12 @@ returns-clause-text g c =
 pub returns-clause-file : goal.returns-clause-file
 returns-clause-file g c =
     joined_is_file c.args.first.now c.args.others.now (subst IsFrame c.frame.ensures.frame c.frame.ensures.valid)
-    c.in_ok-put_parts.ensures.possible (c.requires.first, c.requires.others)
+    c.in_ok-put_joined.ensures.possible (c.requires.first, c.requires.others)
 
 pub returns-clause-messages : goal.returns-clause-messages
 returns-clause-messages g c =
-    joined_states c.args.first.now c.args.others.now c.in_ok-put_parts.ensures.possible (c.requires.first, c.requires.others)
+    joined_states c.args.first.now c.args.others.now c.in_ok-put_joined.ensures.possible (c.requires.first, c.requires.others)
 
 pub returns-clause-written_out : goal.returns-clause-written_out
 returns-clause-written_out g c =
-    joined_is_plain c.args.first.now c.args.others.now c.in_ok-put_parts.ensures.possible (c.requires.first, c.requires.others)
+    joined_is_plain c.args.first.now c.args.others.now c.in_ok-put_joined.ensures.possible (c.requires.first, c.requires.others)
