@@ -8,6 +8,7 @@ prints the rows of the table in docs/PROGRAMS.md for these seeds, with those of 
 
 import collections
 import functools
+import itertools
 import os
 import pathlib
 import random
@@ -31,14 +32,17 @@ NEEDS = ("fitrec",)
 # Of the records outside a hole of so many bytes, how many are kept at least, and of those that are kept, how many may be made up.
 KEPT = {1: 0.99, 16: 0.99, 512: 0.99, 4096: 0.97}
 MADE_UP = 1 / 1000
+# In how many bytes of a record a hole begins, and in how many one ends; and how many false records a hole of a kind may leave there.
+ALIGNMENTS = 8
+LEFT = {"zeros": 0, "FF": 0, "noise": 0.2, "older content": 0.2}
 # Beside a cluster that has another content, or before the end of an older ride.
 KEPT_BESIDE = 0.99
 # Of the parts with another ride, how many say so at least.
 TOLD = 0.3
 # How many may be of bytes of other moments, in a ride of heart rates alone: nearly all that stand in a hole of 512 bytes.
 MADE_UP_WITHOUT = 72 / 1000
-# One ride of another maker has so many records whose times are two years later.
-STRANGE = 14
+# One ride of another maker has so many records whose times are two years later, and one before them.
+STRANGE = 15
 # Two rides of one device each, whose definitions have the same local numbers; and how many of the intact records come back at least where one
 # has lost its definitions and the other lends them.
 OF_ONE_DEVICE = (("2012_01_11_11_51_01.fit", "2013-04-11-17-32-50.fit"), ("20130716_202738.fit", "20130717_143733.fit"),
@@ -184,7 +188,7 @@ def described(sums):
 
 def over(given, rides, name):
     rounds = max(1, given.files // 3000) * max(1, 8 // len(rides))
-    for kind, size, holes in [(kind, size, 1) for size in SIZES for kind in KINDS] + [("noise", 512, 2)]:
+    for kind, size, holes in [(kind, size, 1) for size in SIZES for kind in KINDS] + [("noise", 512, 2), ("FF", 16, 2)]:
         sums = judged(given.fitrec, given.seed, rides, kind, size, rounds, holes)
         well = sums is not None and sums[1] >= KEPT[size] * sums[0] and sums[2] <= MADE_UP * sums[1]
         wanted = "%.2f kept, %.3f made up" % (KEPT[size], MADE_UP)
@@ -246,6 +250,32 @@ def named_once(given):
         yield "zeros are no file_id", differs(count, 1, at)
 
 
+def cut_by(pick, data, kind, size):
+    """The ride with a hole that begins within a record, and with one that ends there, at some of its bytes."""
+    head, row = numbers(data)
+    there, old = list(items(row)), older(row)
+    whole = collections.Counter(it.what for it in there if it.what is not None)
+    one = pick.choice([it for it in there if it.what is not None and size + 200 < it.start < len(row) - size - 200])
+    places = range(one.start, one.end)
+    for at in [it - gone for gone in (0, size) for it in pick.sample(places, min(ALIGNMENTS, len(places)))]:
+        touched = [it for it in there if touches(it, kind, size, at)]
+        outside = whole - collections.Counter(it.what for it in touched if it.what is not None)
+        if all(it.what is not None for it in touched):
+            yield Damaged(head + hole(pick, row, old, kind, size, at) + bytes(2), 0, whole, outside, False)
+
+
+def edges(given):
+    """A record that a hole cuts is left out with it, wherever the hole begins or ends in it: no record has zeros for values, or FF."""
+    found = of_other_makers()
+    rides, pick = own_rides(given.fitrec) + ([] if isinstance(found, Skipped) else found), random.Random(given.seed)
+    for kind, size in [(kind, size) for kind in LEFT for size in (512, 4096)]:
+        cut = [it for data in rides for _ in range(max(1, given.files // 3000)) for it in cut_by(pick, data, kind, size)]
+        sums = [sum(each) for each in zip((0, 0, 0), *[by_salvage(given.fitrec, it) or (1, 0, 0) for it in cut])]
+        most = LEFT[kind] * len(cut)
+        well = sums[1] >= KEPT[size] * sums[0] and sums[2] <= most
+        yield "records cut by %d bytes of %s" % (size, kind), unless(well, described(sums), "%d made up" % most)
+
+
 def without_distances(given):
     """Heart rates alone do not say of which moment they are, and compressed timestamps not of which minute: bytes of other moments fit in."""
     pick = random.Random(given.seed)
@@ -293,23 +323,130 @@ def in_rhythm(steps):
     return lines
 
 
-# By how many seconds the samples of rides are apart, in turn; and of such rides for which a short time may say anything.
-STEADY = [(1,), (0, 1), (0, 0, 1), (5,), (9,), (10,), (10, 11), (9, 10, 11, 10), (12, 15, 13, 19), (20, 25, 22, 28), (31,), (60,)]
-UNSTEADY = [(1, 1, 1, 20), (1, 31)]
+# By how many seconds the samples of rides are apart, in turn.
+STEPS = [(1,), (0, 1), (0, 0, 1), (5,), (9,), (10,), (10, 11), (9, 10, 11, 10), (12, 15, 13, 19), (20, 25, 22, 28), (31,), (60,), (1, 1, 1, 20), (1, 31)]
 
 
 def rhythms(given):
-    """Nothing is left out of a ride that is cut off after an entry, whose samples are as far apart as those before. If they are not, and
-    more than 8 seconds apart, at most half of it is."""
-    for steps in STEADY + UNSTEADY:
+    """Nothing is left out of a ride that is cut off after an entry, however far apart its samples are."""
+    for steps in STEPS:
         data = recording(given.fitrec, *in_rhythm(steps), "commit")["activity.fit"]
-        name, size = "samples %s s apart" % " and ".join(map(str, steps)), len(numbers(data)[1])
+        size = len(numbers(data)[1])
         came = mended(given.fitrec, data)[0]
-        if steps in STEADY:
-            yield name, differs(came, (0, "kept %d of %d, parts 1\n" % (size, size), ""))
-        else:
-            kept = re.match(r"kept (\d+) of %d, " % size, came[1])
-            yield name, unless(kept and int(kept[1]) >= size / 2, came, "half of %d" % size)
+        yield "samples %s s apart" % " and ".join(map(str, steps)), differs(came, (0, "kept %d of %d, parts 1\n" % (size, size), ""))
+
+
+def silences(given):
+    """Nothing is left out of a ride that is cut off after a commit and had a silence, of some minutes or an hour, with or without a way."""
+    for fields in ("hr=%d", "hr=%d dist=%d", "hr=%d dist=%d lat=%d long=%d"):
+        for seconds in (100, 240, 600, 3600):
+            values = [(120 + k % 9, 650 * k, 566012345 + 300 * k, 102345678 + 300 * k)[:fields.count("=")] for k in range(600)]
+            lines = ["sample %d %s" % (1000000001 + k + seconds * (k >= 300), fields % it) for k, it in enumerate(values)]
+            data = recording(given.fitrec, "start 1000000000 7 cycling", *lines, "commit")["activity.fit"]
+            size = len(numbers(data)[1])
+            came = mended(given.fitrec, data, "--all")[0]
+            yield "%d s without a sample, %s" % (seconds, fields), differs(came, (0, "kept %d of %d, parts 1\n" % (size, size), ""))
+
+
+def bytes_for(size, n):
+    return n.to_bytes(size, "little")
+
+
+def defined(local, number, *fields):
+    return bytes([0x40 | local, 0, 0, number, 0, len(fields)]) + b"".join(map(bytes, fields))
+
+
+# The fields of a time, a distance, a heart rate, and what begins a file of another maker.
+AT, FAR, HEART = (253, 4, 0x86), (5, 4, 0x86), (3, 1, 2)
+BEGIN = defined(0, 0, (0, 1, 0), (4, 4, 0x86)) + bytes([0, 4]) + bytes_for(4, 1000000000) + defined(2, 21, AT, (0, 1, 0), (1, 1, 0))
+
+
+def stopped(time, seconds):
+    """The timer stops at a time, and goes on so many seconds later."""
+    return bytes([2]) + bytes_for(4, time) + bytes([0, 4]) + bytes([2]) + bytes_for(4, time + seconds) + bytes(2)
+
+
+def swim():
+    """A swim of 60 lengths, with a rest of 200 seconds after each tenth: each length has a message of its own, and then a sample."""
+    row, time = BEGIN + defined(6, 20, AT, FAR, HEART) + defined(7, 101, AT, (2, 4, 0x86), (254, 2, 0x84), (0, 1, 0), (1, 1, 0)), 1000000000
+    for number in range(60):
+        begin = time + 200 * (number % 10 == 9)
+        time = begin + 27 + number % 4
+        row += bytes([7]) + bytes_for(4, time) + bytes_for(4, begin) + bytes_for(2, number) + bytes([28, 3])
+        row += bytes([6]) + bytes_for(4, time) + bytes_for(4, 2500 * number + 2500) + bytes([140 + number % 10])
+    return framed(row)
+
+
+def swims(given):
+    """What follows a hole in a swim is kept, also where samples are minutes apart and messages of lengths stand between them."""
+    data, pick = swim(), random.Random(given.seed)
+    head, row = numbers(data)
+    there = list(items(row))
+    for kind in ("zeros", "FF", "noise"):
+        for at in [pick.randrange(200, len(row) - 532) for _ in range(8)]:
+            holed = hole(pick, row, older(row), kind, 512, at)
+            outside = collections.Counter(it.what for it in there if it.what is not None and not touches(it, kind, 512, at))
+            kept = collections.Counter(it.what for it in records(mended(given.fitrec, head + holed + bytes(2), "--all")[1]))
+            lost = sum((outside - kept).values())
+            yield "a swim with a hole of %s" % kind, unless(lost <= 4 and sum((kept - outside).values()) <= 2, lost, "4 lost at most")
+
+
+def after_pauses(given):
+    """After a pause, or a silence without one, a sample with a false time takes at most one other with it."""
+    for seconds, is_told in ((240, True), (600, True), (600, False), (3600, True)):
+        row, places, time = BEGIN + defined(6, 20, AT, FAR, HEART), [], 1000000000
+        for number in range(900):
+            if number == 500:
+                row, time = row + (stopped(time, seconds) if is_told else b""), time + seconds
+            places.append((len(row) + 1, time))
+            row += bytes([6]) + bytes_for(4, time) + bytes_for(4, 700 * number) + bytes([120 + number % 9])
+            time += 1
+        for after in (20, 50, 100, 150, 300):
+            at, stated = places[500 + after]
+            for bit in [it for it in range(3, 9) if stated >> it & 1][:2]:
+                damaged = row[:at] + bytes_for(4, stated ^ 1 << bit) + row[at + 4:]
+                kept = records(mended(given.fitrec, framed(damaged)[:-2] + bytes(2))[1])
+                yield "a false time %d samples after %d s" % (after, seconds), unless(len(kept) >= 898, len(kept), "898 of 900")
+
+
+def legs(given):
+    """In an activity of several sports distances begin anew with each, after a lap and a session: what stands outside a hole is kept."""
+    pick, row = random.Random(given.seed), BEGIN + defined(6, 20, AT, FAR, HEART)
+    row += b"".join(defined(local, number, AT, (2, 4, 0x86), (7, 4, 0x86)) for local, number in ((7, 19), (8, 18)))
+    for leg in range(3):
+        begin = 1000000000 + 600 * leg
+        for number in range(600):
+            row += bytes([6]) + bytes_for(4, begin + number) + bytes_for(4, (700, 900, 300)[leg] * number) + bytes([120 + number % 9])
+        for local in (7, 8):
+            row += bytes([local]) + bytes_for(4, begin + 599) + bytes_for(4, begin) + bytes_for(4, 599000)
+    head, row = numbers(framed(row))
+    there = list(items(row))
+    for kind, size in itertools.product(("zeros", "FF", "noise"), (16, 512)):
+        for at in [pick.randrange(200, len(row) - size - 20) for _ in range(4)]:
+            holed = hole(pick, row, older(row), kind, size, at)
+            outside = collections.Counter(it.what for it in there if it.what is not None and not touches(it, kind, size, at))
+            kept = collections.Counter(it.what for it in records(mended(given.fitrec, head + holed + bytes(2), "--all")[1]))
+            lost = sum((outside - kept).values())
+            yield "legs with %d bytes of %s" % (size, kind), unless(lost <= 2 and sum((kept - outside).values()) <= 1, lost, "2 lost at most")
+
+
+def short_times(given):
+    """Of a ride with times in the short form and some in full, with silences or pauses, all is kept, and in time."""
+    for silence, is_told in itertools.product((100, 300, 3000), (False, True)):
+        row, time = BEGIN + defined(1, 20, AT, FAR, HEART) + defined(3, 20, FAR, HEART), 1000000000
+        for number in range(900):
+            if number in (300, 600):
+                row, time = row + (stopped(time, silence) if is_told else b""), time + silence - 1
+            time += 1
+            values = bytes_for(4, 700 * number) + bytes([120 + number % 9])
+            is_full = number % 31 == 0 or number in (300, 600)
+            row += (bytes([1]) + bytes_for(4, time) if is_full else bytes([0x80 | 3 << 5 | time % 32])) + values
+        whole = framed(row)
+        (status, out, err), file = mended(given.fitrec, whole[:-1])
+        yield "%s of %d s" % ("pauses" if is_told else "silences", silence), differs((status, out, err), (0, "kept %d of %d, parts 1\n" % (len(row), len(row)), ""))
+        wanted = dict(re.findall(r"record timestamp=(\d+) distance=(\d+)", show(whole)))
+        came = re.findall(r"record timestamp=(\d+) distance=(\d+)", show(file))
+        yield "times with %s of %d s" % ("pauses" if is_told else "silences", silence), differs([it for it in came if wanted.get(it[0]) != it[1]], [])
 
 
 def damaged_headers(given):
@@ -420,14 +557,14 @@ def defined_after(row, at):
 
 
 def noise(given):
-    """Ten million bytes without a file in them take less than a second, and not more than in proportion."""
+    """Ten million bytes without a file in them take seconds, also where other programs run, and not more than in proportion."""
     data = random.Random(given.seed).randbytes(10_000_000)
     took = []
     for size in 5_000_000, 10_000_000:
         began = time.monotonic()
         (status, out, err), file = mended(given.fitrec, framed(b"")[:14] + data[:size], "--all")
         took.append(time.monotonic() - began)
-    yield "10 MB of noise", unless(status == 0 and took[1] < 3 and took[1] < 4 * took[0] + 0.2, took, "a second, linear")
+    yield "10 MB of noise", unless(status == 0 and took[1] < 20 and took[1] < 4 * took[0] + 2, took, "seconds, linear")
 
 
 def part_line(number, data):
@@ -543,17 +680,19 @@ def others_told(given):
     pick, (hearts, ride) = random.Random(given.seed), [bytes_plain(given.fitrec, it) for it in own_rides(given.fitrec)]
     head, row = numbers(ride)
     there, old, other = records(ride), older(row), older(numbers(hearts)[1])
-    end, start = there[2000].start, there[900]
-    place, times = len(head) + end, [time_stated(old, it) for it in there[900:902]]
+    # The record before the hole is left out with it, unless nobody wrote what follows. It ends in no zero, so none cuts it.
+    last, start = there[2000], there[900]
+    end, times = last.end, [time_stated(old, it) for it in there[900:902]]
     of_hearts = time_stated(other, records(hearts)[0])
     for name, hole, said in (
-            ("an older ride", old[start.start:], times[0]), ("within a record", old[start.start + 5:], times[1]),
+            ("an older ride", old[start.start:], times[0]), ("within a record", old[start.start + 9:], times[1]),
             ("another layout", hearts[:len(head)] + other, of_hearts),
             ("fewer than eight records", old[start.start:there[907].start] + bytes(200), None), ("noise", pick.randbytes(3000), None),
             ("zeros", bytes(3000), None)):
         (status, out, err), file = mended(given.fitrec, head + row[:end] + hole, "--all")
-        line = "left out %d at %d%s\n" % (len(hole), place, ": another ride from %d" % said if said else "")
-        wanted = 0, "kept %d of %d, parts 1\n" % (end, end + len(hole)) + line, ""
+        kept = end if name == "zeros" else last.start
+        line = "left out %d at %d%s\n" % (end - kept + len(hole), len(head) + kept, ": another ride from %d" % said if said else "")
+        wanted = 0, "kept %d of %d, parts 1\n" % (kept, end + len(hole)) + line, ""
         yield name, differs((status, out, err), wanted)
     # The last record before that is left out too.
     (status, out, err), file = mended(given.fitrec, head + row[:end] + row[start.start:there[1900].start], "--all")
@@ -612,6 +751,11 @@ def told(given):
 def check(given):
     yield from given.checks(whole, given)
     yield from given.checks(rhythms, given)
+    yield from given.checks(silences, given)
+    yield from given.checks(swims, given)
+    yield from given.checks(legs, given)
+    yield from given.checks(after_pauses, given)
+    yield from given.checks(short_times, given)
     yield from given.checks(damaged_headers, given)
     yield from given.checks(lost_beginnings, given)
     yield from given.checks(lent_definitions, given)
@@ -628,6 +772,7 @@ def check(given):
     yield from given.checks(own, given)
     yield from given.checks(from_elsewhere, given)
     yield from given.checks(named_once, given)
+    yield from given.checks(edges, given)
     yield from given.checks(without_distances, given)
     yield from given.checks(others, given)
 

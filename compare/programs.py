@@ -86,10 +86,10 @@ def laps_of(samples, ends):
 
 
 def holed(data):
-    """A data file with zeros in the middle, and the numbers of the first and the last sample that they touch."""
+    """A data file with zeros in the middle, from within a sample on, and the numbers of the first and the last sample that they touch."""
     head, row = numbers(data)
     records = [it for it in items(row) if it.what is not None]
-    at = records[HOLE].start
+    at = records[HOLE].start + 1
     touched = [number for number, it in enumerate(records) if touches(it, "zeros", SIZE, at)]
     return head + row[:at] + bytes(SIZE) + row[at + SIZE:], touched[0], touched[-1]
 

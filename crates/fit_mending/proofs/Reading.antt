@@ -15,10 +15,11 @@ use Rattle.fit_grammar.proofs.OneItem.Spelling.{spelling_not_empty}
 use Rattle.fit_mending.specs.declared.clock.Sign.{Sign}
 use Rattle.fit_mending.specs.declared.pieces.Piece.{Piece}
 use Rattle.fit_mending.specs.declared.progress.Progress.{Progress}
+use Rattle.fit_mending.specs.Form.{comes_from_unwritten, runs_into_unwritten}
 use Rattle.fit_mending.specs.Judged.{judged, judged_with, nothing}
 use Rattle.fit_mending.specs.Private.Cut.{HasNoTrusted, LeavesFrom, PassesRow, ReadsAdded, ReadsUpTo}
 use Rattle.fit_mending.specs.Private.Looking.{PassesOne, ReadsItem, sized}
-use Rattle.fit_mending.specs.Reading.{IsNoted, MayBegin, ReadsFrom, ReadsPieces, ReadsRow, after_row, piece_if}
+use Rattle.fit_mending.specs.Reading.{IsNoted, IsWhole, IsWholeBy, MayBegin, ReadsFrom, ReadsPieces, ReadsRow, after_row, piece_if}
 use Rattle.fit_mending.specs.Steady.{HasSound, IsSteady, IsTrusted, Sized, row_size}
 use Rattle.fit_mending.proofs.Riding.{message_same}
 
@@ -26,8 +27,8 @@ use Rattle.fit_mending.proofs.Riding.{message_same}
 pub reads_item : (f : ℕ → Option Definition) (p from p2 : Progress) (rest own : List ℕ) (item : ReadItem) (used : ℕ) (said : Option Sign) (sign : Sign)
     → MayBegin p from → IsStep f rest (steps.Item item used)
     → judged from (message_lent item from.clock.last) own ≡ option_map (λ s. judged_with s p2) said → own ≡ take used rest → said ≡ Some sign
-    → ReadsItem f p rest item used p2
-reads_item f p from p2 rest own item used said sign begun step e own_is said_is = (
+    → runs_into_unwritten rest used ≡ false → IsWholeBy (item_of item) f p2 (drop used rest) → ReadsItem f p rest item used p2
+reads_item f p from p2 rest own item used said sign begun step e own_is said_is whole followed = (
   from,
   judged_with sign p2,
   begun,
@@ -37,6 +38,7 @@ reads_item f p from p2 rest own item used said sign begun step e own_is said_is 
         ∙ ap (judged from (message_lent item from.clock.last)) (sym own_is) ∙ e ∙ ap (option_map (λ s. judged_with s p2)) said_is;
   },
   refl,
+  (whole, followed),
 )
 
 -- what is read after so many bytes, so that all is read from the front
@@ -54,7 +56,8 @@ passes_on f f2 g p p2 q bytes front item used was one g_is row after reads =
     subst (λ (h : ℕ → Option Definition). ReadsRow h one.1.progress (drop used (drop front bytes)) row after) g_is
     (subst (λ (r : Progress). ReadsRow g r (drop used (drop front bytes)) row after) (sym one.4)
     (subst (λ (b : List ℕ). ReadsRow g q b row after) (sym (drop-drop used front bytes)) reads)) in
-    let all = was (sized item used ∷ row) after (one.0, one.1, one.2, one.3, here) in
+    let whole = subst (λ (r : Progress). IsWhole f2 r (drop front bytes) (sized item used)) (sym one.4) one.5 in
+    let all = was (sized item used ∷ row) after (one.0, one.1, one.2, one.3, whole, here) in
     subst (λ (n : ℕ). PassesRow f p bytes n (after_row g row) after) (omega arith)
     (subst (λ (h : ℕ → Option Definition). PassesRow f p bytes (front + row_size (sized item used ∷ row)) (after_row h row) after) (sym g_is) all)
 
@@ -132,22 +135,27 @@ same_row f p after bytes (one ∷ row) none reads =
 -- what is read with a piece before it that is kept
 pub reads_kept : (f g : ℕ → Option Definition) (p after : Progress) (bytes : List ℕ) (start count : ℕ) (others : List Piece)
     → PassesRow f p (drop start bytes) count g after
-    → ((sound last : List Sized) → 32 ≤ length last → IsSteady f p 0 (drop start bytes) (sound ++ last) → row_size sound ≤ count)
+    → ((sound last : List Sized) → 1 ≤ count → 32 ≤ length last → IsSteady f p 0 (drop start bytes) (sound ++ last) → row_size sound ≤ count)
+    → (1 ≤ count → comes_from_unwritten bytes start ≡ false)
     → ReadsPieces bytes g after others → ReadsPieces bytes f p (piece_if start (start + count) true ++ others)
-reads_kept f g p after bytes start count others passes steady reads = by (nat_lt start (start + count)) refl
+reads_kept f g p after bytes start count others passes steady begins reads = by (nat_lt start (start + count)) refl
   where
+    some : nat_lt start (start + count) ≡ true → 1 ≤ count
+    some less = omega (arith, ltb-true start (start + count) less)
+
     next : ReadsPieces bytes (after_row f passes.row) after others
     next = subst (λ (h : ℕ → Option Definition). ReadsPieces bytes h after others) passes.next_are reads
 
     by : (b : Bool) → nat_lt start (start + count) ≡ b → ReadsPieces bytes f p ((if b then record { start = start; end = start + count; kept = true } ∷ [] else []) ++ others)
-    by true is = (
+    by true is_less = (
       passes.row,
       after,
       record {
         size = ap (λ (n : ℕ). start + n) passes.size;
         are = passes.are;
-        steady = λ sound last long is. omega (arith, steady sound last long is);
+        steady = λ sound last long is. omega (arith, steady sound last (some is_less) long is);
       },
+      begins (some is_less),
       next,
     )
     by false is =
@@ -158,26 +166,30 @@ reads_kept f g p after bytes start count others passes steady reads = by (nat_lt
 
 -- what is read with a piece before it that is left out
 pub reads_left : (f : ℕ → Option Definition) (p after : Progress) (bytes : List ℕ) (start count from : ℕ) (others : List Piece)
-    → LeavesFrom f p (drop start bytes) from count after → (from ≡ 1 → IsTrusted f p (drop start bytes) → ⊥) → from ≤ 1
+    → LeavesFrom f p (drop start bytes) from count after → (from ≡ 1 → IsTrusted f p (drop start bytes) → comes_from_unwritten bytes start ≡ true) → from ≤ 1
     → ReadsPieces bytes f after others → ReadsPieces bytes f p (piece_if start (start + count) false ++ others)
 reads_left f p after bytes start count from others leaves first most reads = by (nat_lt start (start + count)) refl
   where
-    never : (place : ℕ) → place < count → IsTrusted f p (drop place (drop start bytes)) → ⊥
-    never place less trusted = test (nat_lt place from) refl
+    never : (place : ℕ) → start ≤ place → place < start + count → IsTrusted f p (drop place bytes) → comes_from_unwritten bytes place ≡ true
+    never place least less trusted = test (nat_lt (place - start) from) refl
       where
-        test : (b : Bool) → nat_lt place from ≡ b → ⊥
+        there : IsTrusted f p (drop (place - start) (drop start bytes))
+        there = subst (IsTrusted f p) (sym (drop-drop (place - start) start bytes ∙ ap (λ (n : ℕ). drop n bytes) (omega (arith, least)))) trusted
+
+        test : (b : Bool) → nat_lt (place - start) from ≡ b → comes_from_unwritten bytes place ≡ true
         test true is =
-            let one = ltb-true place from is in
-            let none : place ≡ 0 = omega (arith, one, most) in
-            first (omega (arith, one, most)) (subst (λ (n : ℕ). IsTrusted f p (drop n (drop start bytes))) none trusted)
-        test false is = leaves.none place (ltb-false place from is) less trusted
+            let one = ltb-true (place - start) from is in
+            let same : start ≡ place = omega (arith, one, most, least) in
+            subst (λ (n : ℕ). comes_from_unwritten bytes n ≡ true) same
+            (first (omega (arith, one, most)) (subst (λ (n : ℕ). IsTrusted f p (drop n bytes)) (sym same) trusted))
+        test false is = absurd (leaves.none (place - start) (ltb-false (place - start) from is) (omega (arith, least, less)) there)
 
     by : (b : Bool) → nat_lt start (start + count) ≡ b → ReadsPieces bytes f p ((if b then record { start = start; end = start + count; kept = false } ∷ [] else []) ++ others)
     by true is = (
       after,
       record {
         begun = leaves.begun;
-        none = none_after f p bytes start start count (λ place least less trusted. absurd (omega (arith, least, less))) never;
+        none = never;
         same = λ trusted. leaves.there most (subst (IsTrusted f p) (sym (drop-drop count start bytes)) trusted);
         goes_on = λ less.
             subst (HasSound f after) (drop-drop count start bytes) (leaves.goes_on (omega (arith, less, length-drop start bytes)));
@@ -193,11 +205,12 @@ up_to_none bytes f p taken = ([], sym (append-nil taken), λ others reads. reads
 -- one more piece that is kept, and one that is left out
 pub up_to_more : (bytes : List ℕ) (f g h : ℕ → Option Definition) (p q r s : Progress) (at count left : ℕ) (taken more kept all : List Piece)
     → ReadsUpTo bytes f p taken g q more → PassesRow g q (drop at bytes) count h r
-    → ((sound last : List Sized) → 32 ≤ length last → IsSteady g q 0 (drop at bytes) (sound ++ last) → row_size sound ≤ count)
-    → (IsTrusted h r (drop (at + count) bytes) → ⊥) → LeavesFrom h r (drop (at + count) bytes) 1 left s
+    → ((sound last : List Sized) → 1 ≤ count → 32 ≤ length last → IsSteady g q 0 (drop at bytes) (sound ++ last) → row_size sound ≤ count)
+    → (1 ≤ count → comes_from_unwritten bytes at ≡ false)
+    → (IsTrusted h r (drop (at + count) bytes) → comes_from_unwritten bytes (at + count) ≡ true) → LeavesFrom h r (drop (at + count) bytes) 1 left s
     → kept ≡ more ++ piece_if at (at + count) true → all ≡ kept ++ piece_if (at + count) (at + count + left) false
     → ReadsUpTo bytes f p taken h s all
-up_to_more bytes f g h p q r s at count left taken more kept all was passes steady ends leaves kept_is all_is =
+up_to_more bytes f g h p q r s at count left taken more kept all was passes steady begins ends leaves kept_is all_is =
     let one = piece_if at (at + count) true in
     let other = piece_if (at + count) (at + count + left) false in (
       was.0 ++ (one ++ other),
@@ -205,7 +218,7 @@ up_to_more bytes f g h p q r s at count left taken more kept all was passes stea
           ∙ ap (λ (ps : List Piece). ps ++ (one ++ other)) was.1 ∙ append_assoc taken was.0 (one ++ other),
       λ others reads.
           let second = reads_left h r s bytes (at + count) left 1 others leaves (λ _. ends) (omega arith) reads in
-          let first = reads_kept g h q r bytes at count (other ++ others) passes steady second in
+          let first = reads_kept g h q r bytes at count (other ++ others) passes steady begins second in
           subst (ReadsPieces bytes f p) (joined was.0 one other others)
           (was.2 (one ++ (other ++ others)) first),
     )

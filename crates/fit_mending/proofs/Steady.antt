@@ -17,9 +17,9 @@ use Rattle.fit_mending.specs.declared.clock.Sign.TheVariants.{Doubtful, Nothing,
 use Rattle.fit_mending.specs.declared.progress.Progress.{Progress}
 use Rattle.fit_mending.specs.declared.trial.Ahead.{Ahead}
 use Rattle.fit_mending.specs.declared.trial.Need.{Need}
-use Rattle.fit_mending.specs.Form.{begins_item}
+use Rattle.fit_mending.specs.Form.{begins_item, runs_into_unwritten}
 use Rattle.fit_mending.specs.Judged.{Judgement, judged, judged_with, message_by}
-use Rattle.fit_mending.specs.Private.Looking.{HasRowLeft, IsEnough, LooksOn, PassesOne, PassesTo, SaidOf, ahead_with, doubts}
+use Rattle.fit_mending.specs.Private.Looking.{HasRowLeft, IsEnough, LooksOn, PassesOne, PassesTo, SaidOf, ahead_with}
 use Rattle.fit_mending.specs.Steady.{HasSteady, IsSteady, Sized, quiet_after, row_size}
 use Rattle.fit_mending.proofs.Riding.{message_same, no_front}
 
@@ -80,6 +80,21 @@ at_first n f p bytes has some = go has.1 has.3 has.4
     go : (row : List Sized) → n ≤ length row → IsSteady f p has.0 bytes row → (one : Sized) × ItemAtFront f bytes one.item one.size
     go [] long steady = absurd (omega (arith, long, some))
     go (one ∷ row) long steady = (one, steady.1.at)
+
+-- the first does not run into a stretch that nobody wrote
+pub whole_one : (f : ℕ → Option Definition) (p : Progress) (quiet : ℕ) (bytes : List ℕ) (one : Sized) (row : List Sized) (item : ReadItem) (used : ℕ)
+    → IsSteady f p quiet bytes (one ∷ row) → IsStep f bytes (steps.Item item used) → runs_into_unwritten bytes used ≡ false
+whole_one f p quiet bytes one row item used steady step =
+    subst (λ (n : ℕ). runs_into_unwritten bytes n ≡ false)
+    (items_one f bytes one.item (item_of item) one.size used steady.1.at step.states).1 steady.1.whole
+
+pub whole_first : (n : ℕ) (f : ℕ → Option Definition) (p : Progress) (bytes : List ℕ) (item : ReadItem) (used : ℕ) → HasSteady n f p bytes
+    → 1 ≤ n → IsStep f bytes (steps.Item item used) → runs_into_unwritten bytes used ≡ false
+whole_first n f p bytes item used has some step = go has.1 has.3 has.4
+  where
+    go : (row : List Sized) → n ≤ length row → IsSteady f p has.0 bytes row → runs_into_unwritten bytes used ≡ false
+    go [] long steady = absurd (omega (arith, long, some))
+    go (one ∷ row) long steady = whole_one f p has.0 bytes one row item used steady step
 
 -- so the bytes go on with an item
 pub goes_on : (n : ℕ) (f : ℕ → Option Definition) (p : Progress) (bytes : List ℕ) (step : Step) → HasSteady n f p bytes → 1 ≤ n
@@ -296,29 +311,6 @@ counts_one ahead now sign is_definition need is =
     by Nothing false = (omega arith, omega arith)
     by Weak d = (omega arith, omega arith)
     by Strong d = (omega arith, omega arith)
-
-pub no_doubt : (sign : Sign) → (sign ≡ Doubtful → ⊥) → doubts sign ≡ 0
-no_doubt Doubtful certain = absurd (certain refl)
-no_doubt Nothing certain = refl
-no_doubt Weak certain = refl
-no_doubt Strong certain = refl
-
--- the same of one that follows
-pub one_follows : (n : ℕ) (f g : ℕ → Option Definition) (p p2 : Progress) (bytes own others : List ℕ) (item : ReadItem) (used : ℕ)
-    (said : Option Sign) → HasSteady n f p bytes → 1 ≤ n → IsStep f bytes (steps.Item item used)
-    → judged p (message_lent item p.clock.last) own ≡ option_map (λ s. judged_with s p2) said → own ≡ take used bytes
-    → others ≡ drop used bytes → g ≡ in_force_after (item_of item) f
-    → (sign : Sign) × (said ≡ Some sign) × (doubts sign ≡ 0) × HasSteady (n - 1) g p2 others
-one_follows n f g p p2 bytes own others item used said has some step e own_is others_is g_is =
-    let judged_is = subst (λ (b : List ℕ). judged p (message_lent item p.clock.last) b ≡ option_map (λ s. judged_with s p2) said) own_is e in
-    let is = one_said n f g p p2 bytes item used said has some step judged_is g_is in
-    (is.0, is.1, no_doubt is.0 is.2, subst (HasSteady (n - 1) g p2) (sym others_is) is.3)
-
-pub doubts_of : (sign : Sign) (said : Option Sign) (other : Sign) → said ≡ Some sign → said ≡ Some other → doubts sign ≡ 0 → doubts other ≡ 0
-doubts_of sign said other a b none = subst (λ (s : Sign). doubts s ≡ 0) (sign_same sign other (sym a ∙ b)) none
-
-pub steady_by : (m n : ℕ) (f : ℕ → Option Definition) (p : Progress) (bytes : List ℕ) → n ≤ m → HasSteady m f p bytes → HasSteady n f p bytes
-steady_by m n f p bytes less has = (has.0, has.1, has.2, omega (arith, less, has.3), has.4)
 
 sum_of : (one : Sized) (row : List Sized) → row_size (one ∷ row) ≡ one.size + row_size row
 sum_of one row = refl

@@ -12,7 +12,7 @@ use Rattle.fit_mending.specs.declared.clock.Sign.{Sign}
 use Rattle.fit_mending.specs.declared.clock.Sign.TheVariants.{Doubtful, Nothing, Weak, Strong}
 use Rattle.fit_mending.specs.declared.progress.Progress.{Progress}
 use Rattle.fit_mending.specs.declared.trial.Ahead.{Ahead}
-use Rattle.fit_mending.specs.Form.{begins_item}
+use Rattle.fit_mending.specs.Form.{begins_item, runs_into_unwritten}
 use Rattle.fit_mending.specs.Judged.{judged, judged_with}
 use Rattle.fit_mending.specs.Private.Looking.{IsAtFirst, StaysSteady, quiet_if, sized}
 use Rattle.fit_mending.specs.Steady.{HasSound, HasSteady, IsSteady, IsTrusted, Sized, quiet_after}
@@ -119,11 +119,11 @@ sign_same a b e = cc
 
 -- and after it if it did before, and before if it does after it
 pub stays_next : (n m : ℕ) (f g : ℕ → Option Definition) (p p2 : Progress) (quiet more : ℕ) (rest own others : List ℕ) (item : ReadItem) (used : ℕ)
-    (said : Option Sign) (sign : Sign) → n < 256 → m ≡ n + 1 → begins_item rest ≡ true → IsStep f rest (steps.Item item used)
+    (said : Option Sign) (sign : Sign) → n < 256 → m ≡ n + 1 → begins_item rest ≡ true → runs_into_unwritten rest used ≡ false → IsStep f rest (steps.Item item used)
     → judged p (message_lent item p.clock.last) own ≡ option_map (λ s. judged_with s p2) said → own ≡ take used rest
     → others ≡ drop used rest → g ≡ in_force_after (item_of item) f → said ≡ Some sign → quiet_if quiet sign ≡ Some more
     → StaysSteady n f p quiet rest ↔ StaysSteady m g p2 more others
-stays_next n m f g p p2 quiet more rest own others item used said sign few m_is begins step e own_is others_is g_is said_is more_is =
+stays_next n m f g p p2 quiet more rest own others item used said sign few m_is begins whole step e own_is others_is g_is said_is more_is =
     ((λ stays. go stays.0 stays.1 stays.2), back)
   where
     judged_is : judged p (message_lent item p.clock.last) (take used rest) ≡ option_map (λ s. judged_with s p2) said
@@ -156,6 +156,7 @@ stays_next n m f g p p2 quiet more rest own others item used said sign few m_is 
               is = ap (λ (m : Option LentMessage). judged p m (take used rest)) (message_same f p.clock.last item used step.lent)
                   ∙ judged_is ∙ ap (option_map (λ s. judged_with s p2)) said_is;
               certain = quiet_now.0;
+              whole = whole;
             },
             quiet_now.2,
             subst (λ (h : ℕ → Option Definition). IsSteady h p2 (quiet_after quiet sign) (drop used rest) stays.0) g_is there,

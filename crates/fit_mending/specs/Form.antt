@@ -1,5 +1,5 @@
 -- The form of an item as a device writes it.
-use Rattle.std.specs.Prelude.{ℕ, ◌-◌, ◌%◌, ◌/◌, Bool, true, false, List, ◌∷◌, length, drop, set, replicate, slice_index, slice_index_or, not, nat_lt, ◌==◌, ◌&&◌, ◌||◌, if◌then◌else◌}
+use Rattle.std.specs.Prelude.{ℕ, ◌+◌, ◌-◌, ◌%◌, ◌/◌, Bool, true, false, List, ◌∷◌, length, take, drop, set, replicate, slice_index, slice_index_or, not, nat_lt, ◌==◌, ◌&&◌, ◌||◌, if◌then◌else◌}
 use Rattle.std.specs.List.{list_all}
 
 -- the first byte of a definition has bit 6 and not bit 7; one of a data message with a compressed timestamp has bit 7; another one is the
@@ -25,6 +25,22 @@ abbrev pub blank : List ℕ → Bool
 blank bytes =
     ((slice_index bytes 0 == 0) || (slice_index bytes 0 == 255)) && not (nat_lt (length bytes) 4)
     && list_all (λ byte. byte == slice_index bytes 0) bytes
+
+-- so many bytes in a row that are all 0, or all 255, are a stretch that nobody wrote, such as a sector; one more is a byte of an item beside
+-- it
+abbrev pub stretch : ℕ
+stretch = 8
+
+abbrev pub begins_unwritten : List ℕ → Bool
+begins_unwritten bytes = not (nat_lt (length bytes) (stretch + 1)) && blank (take (stretch + 1) bytes)
+
+-- an item of so many bytes at the front runs into such a stretch: its last byte is as those after it
+abbrev pub runs_into_unwritten : List ℕ → ℕ → Bool
+runs_into_unwritten bytes size = begins_unwritten (drop (size - 1) bytes)
+
+-- the byte at a place comes out of one: it is as those before it
+abbrev pub comes_from_unwritten : List ℕ → ℕ → Bool
+comes_from_unwritten bytes place = not (nat_lt place stretch) && begins_unwritten (drop (place - stretch) bytes)
 
 -- the number of bytes of one value of a base type, or 0 if the type is not known; bit 7 is left out by some devices
 abbrev pub unit_by : ℕ → ℕ

@@ -36,7 +36,7 @@ judged_with sign progress = record { sign = sign; progress = progress }
 
 -- before any item
 abbrev pub no_times : Clock
-no_times = record { last = 0; of_record = None; latest = None; step = 0; may_leap = false }
+no_times = record { last = 0; of_record = None; latest = None; may_leap = false }
 
 abbrev pub no_values : Values
 no_values = record { distance = None; latitude = None; longitude = None }
@@ -81,12 +81,16 @@ abbrev pub moved : Progress → List MessageField → Sign → Option Judgement
 moved progress fields sign =
     moved_with (moved_to progress fields) (sign_by (changed_from Unknown progress.values progress.clock.last fields) sign)
 
+-- a lap or a session may end a leg of several sports: after it the distance may begin anew
+abbrev pub values_beside : Values → ℕ → Values
+values_beside values global = if (global == 18) || (global == 19) then record values { distance = None } else values
+
 -- a message that was heard
 abbrev pub judged_after : Progress → LentMessage → Option Heard → Option Judgement
 judged_after progress m None = None
 judged_after progress m (Some now) =
     if m.message.global == 20 then moved (record progress { clock = now.clock }) m.message.fields now.sign
-    else Some (judged_with now.sign (record progress { clock = now.clock }))
+    else Some (judged_with now.sign (record progress { clock = now.clock; values = values_beside progress.values m.message.global }))
 
 -- an item of these bytes, by its message; a definition has none. None of it is judged if it is a fault: a definition that no device
 -- writes, a reserved bit, an erased stretch, a file_id (message 0) after a record, a time that falls or leaps, or a distance or a position

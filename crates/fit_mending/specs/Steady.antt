@@ -1,5 +1,5 @@
 -- Rows of items in which nothing is doubtful.
-use Rattle.std.specs.Prelude.{◌≡◌, ℕ, ◌+◌, ◌<◌, ◌≤◌, true, List, [], ◌∷◌, length, take, drop, Option, Some}
+use Rattle.std.specs.Prelude.{◌≡◌, ℕ, ◌+◌, ◌<◌, ◌≤◌, true, false, List, [], ◌∷◌, length, take, drop, Option, Some}
 use Rattle.fit_grammar.specs.declared.definition.Definition.{Definition}
 use Rattle.fit_grammar.specs.Format.Item.{Item}
 use Rattle.fit_grammar.specs.Calls.Step.{ItemAtFront}
@@ -7,7 +7,7 @@ use Rattle.fit_grammar.specs.Calls.Table.{in_force_after}
 use Rattle.fit_mending.specs.declared.clock.Sign.{Sign}
 use Rattle.fit_mending.specs.declared.clock.Sign.TheVariants.{Doubtful, Strong}
 use Rattle.fit_mending.specs.declared.progress.Progress.{Progress}
-use Rattle.fit_mending.specs.Form.{begins_item}
+use Rattle.fit_mending.specs.Form.{begins_item, runs_into_unwritten}
 use Rattle.fit_mending.specs.Judged.{Judgement, judged, message_by}
 
 -- an item, and how many bytes it has
@@ -15,13 +15,15 @@ pub record Sized : Type 0 where
   pub item : Item
   pub size : ℕ
 
--- under these definitions, an item at the front of the bytes is no fault and not doubtful after others; this is what it says
+-- under these definitions, an item at the front of the bytes is no fault and not doubtful after others, and does not run into a stretch that
+-- nobody wrote; this is what it says
 pub record IsCertain (definition_for : ℕ → Option Definition) (progress : Progress) (bytes : List ℕ) (one : Sized)
     (judgement : Judgement) : Type 0 where
   pub at : ItemAtFront definition_for bytes one.item one.size
   pub begins : begins_item bytes ≡ true
   pub is : judged progress (message_by definition_for progress.clock.last one.item) (take one.size bytes) ≡ Some judgement
   pub certain : judgement.sign ≡ Doubtful → ⊥
+  pub whole : runs_into_unwritten bytes one.size ≡ false
 
 -- under these definitions, an item at the front of the bytes is no fault after others; this is what it says
 pub record IsSound (definition_for : ℕ → Option Definition) (progress : Progress) (bytes : List ℕ) (one : Sized)

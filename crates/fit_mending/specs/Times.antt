@@ -1,5 +1,5 @@
 -- The times of items: how one goes on after others, and what it says.
-use Rattle.std.specs.Prelude.{ℕ, ◌-◌, Bool, true, false, List, [], ◌∷◌, Option, Some, None, max, not, unwrap_or, nat_lt, ◌==◌, ◌&&◌, ◌||◌, if◌then◌else◌}
+use Rattle.std.specs.Prelude.{ℕ, ◌-◌, Bool, true, false, List, [], ◌∷◌, Option, Some, None, max, not, unwrap_or, nat_lt, ◌==◌, ◌&&◌, if◌then◌else◌}
 use Rattle.fit_grammar.specs.Format.Message.{MessageField}
 use Rattle.fit_grammar.specs.Calls.LentMessage.{LentMessage, lent_time}
 use Rattle.fit_mending.specs.declared.clock.Clock.{Clock}
@@ -61,24 +61,11 @@ heard_stated clock time is_record =
     then Some (heard_with (stated_sign clock time is_record) (record (set_to clock time is_record) { may_leap = false }))
     else None
 
--- neither number is more than twice the other
-abbrev pub is_alike : ℕ → ℕ → Bool
-is_alike one other = not (nat_lt other (one - other)) && not (nat_lt one (other - one))
-
--- a compressed timestamp is a weak sign if it is at most 8 seconds later, or about as many as the one before it
-abbrev pub compressed_sign : Clock → ℕ → Sign
-compressed_sign clock seconds =
-    if seconds == 0 then Nothing
-    else if not (nat_lt 8 seconds) || is_alike seconds clock.step then Weak
-    else Doubtful
-
-abbrev pub step_after : Clock → ℕ → Clock
-step_after clock seconds = if nat_lt 0 seconds then record clock { step = seconds } else clock
-
+-- a compressed timestamp is a weak sign, unless it is in the same second
 abbrev pub compressed_after : Clock → ℕ → Option Heard
 compressed_after clock time =
     if may_follow clock time true
-    then Some (heard_with (compressed_sign clock (time - clock.last)) (step_after (set_to clock time true) (time - clock.last)))
+    then Some (heard_with (if nat_lt clock.last time then Weak else Nothing) (set_to clock time true))
     else None
 
 -- a message with a compressed timestamp; before the first time it says nothing, and other messages than records have none

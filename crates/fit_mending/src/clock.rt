@@ -1,7 +1,7 @@
 // Judges messages by their times.
 
 ghost use Rattle.std.specs.Prelude.{◌≡◌, option_map};
-ghost use Rattle.fit_mending.specs.Times.{before_of, compressed_sign as compressed_sign_of, heard, heard_compressed, heard_stated, heard_with, is_alike, may_follow as may_follow_at, set_to, stated_sign as stated_sign_of, states_twice};
+ghost use Rattle.fit_mending.specs.Times.{before_of, heard, heard_compressed, heard_stated, heard_with, may_follow as may_follow_at, set_to, stated_sign as stated_sign_of, states_twice};
 
 use fit_grammar::Message;
 
@@ -16,9 +16,6 @@ pub(crate) const DAY: u32 = 86_400;
 
 // A record whose time is later by more seconds than this is no sign until the next one follows it, and another message is worth less.
 const LEAP: u32 = 120;
-
-// A compressed timestamp is later by at most so many seconds, or by about as many as the one before it. Noise has more.
-const NEAR: u32 = 8;
 
 /// What an item says of whether its bytes are no noise.
 #[derive(Clone, Copy)]
@@ -41,8 +38,6 @@ pub struct Clock {
     pub of_record: Option<u32>,
     /// The latest time.
     pub latest: Option<u32>,
-    /// By how many seconds the last compressed timestamp was later that was.
-    pub step: u32,
     /// Whether the next time that is stated may be later by any number of seconds.
     pub may_leap: bool,
 }
@@ -52,7 +47,6 @@ pub(crate) const NO_TIMES: Clock = Clock {
     last: 0,
     of_record: None,
     latest: None,
-    step: 0,
     may_leap: false,
 };
 
@@ -100,29 +94,16 @@ impl Clock {
         if !is_record {
             return Some(Sign::Doubtful);
         }
-        let seconds = time.saturating_sub(self.last);
-        let sign = self.compressed_sign(seconds);
+        let sign = if time > self.last {
+            Sign::Weak
+        } else {
+            Sign::Nothing
+        };
         if !self.may_follow(time, true) {
             return None;
         }
         self.set(time, true);
-        if seconds > 0 {
-            self.step = seconds;
-        }
         Some(sign)
-    }
-
-    // What a record says that comes so many seconds after the last time. One in the same second says nothing.
-    fn compressed_sign(&self, seconds: u32) -> Sign
-        ensures { result ≡ compressed_sign_of self.now seconds }
-    {
-        if seconds == 0 {
-            Sign::Nothing
-        } else if seconds <= NEAR || are_alike(seconds, self.step) {
-            Sign::Weak
-        } else {
-            Sign::Doubtful
-        }
     }
 
     // What a message says that states this time.
@@ -181,13 +162,6 @@ impl Clock {
             _ => latest.saturating_sub(time) <= DAY,
         }
     }
-}
-
-// Whether neither number is more than twice the other.
-fn are_alike(one: u32, other: u32) -> bool
-    ensures { result ≡ is_alike one other }
-{
-    one.saturating_sub(other) <= other && other.saturating_sub(one) <= one
 }
 
 // Whether a message with a compressed timestamp has a field for the time beside it.

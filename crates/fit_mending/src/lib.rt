@@ -16,6 +16,7 @@
 //!
 //! Proved: what is kept are whole items of the file, in order, read under definitions that were kept before them, and every byte is in one
 //! piece; a row without a doubt is kept up to its last 32 items, and after a fault reading goes on no later than at the first trusted row.
+//! No fault follows a data message that is kept, so that none is cut by a hole.
 //! It looks ahead at no more items than `most_looks`: each look is by `Looks::look`, which counts it.
 //! Not proved: that a kept piece is no noise. Trusted is the kit alone.
 #![tactic(auto)]

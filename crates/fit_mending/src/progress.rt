@@ -1,8 +1,8 @@
 // Judges items by their form, their times and their values.
 
-ghost use Rattle.std.specs.Prelude.{◌≡◌, ◌-◌, ◌==◌, ◌&&◌, nat_lt, is_some, option_map};
+ghost use Rattle.std.specs.Prelude.{◌≡◌, ◌-◌, nat_lt, is_some, option_map};
 ghost use Rattle.fit_grammar.specs.Calls.LentMessage.{message_lent};
-ghost use Rattle.fit_mending.specs.Judged.{anew as anew_of, judged, judged_with, moved, nothing, sign_by as sign_by_of};
+ghost use Rattle.fit_mending.specs.Judged.{anew as anew_of, judged, judged_with, moved, nothing, sign_by as sign_by_of, values_beside};
 
 use crate::clock::{Clock, NO_TIMES, RECORD, Sign};
 use crate::form::{is_blank, is_compressed, is_reserved};
@@ -12,6 +12,11 @@ use fit_grammar::{Item, Message, message_of};
 
 // The number of the message that names a file, which has one, before its records.
 const FILE_ID: u16 = 0;
+
+// The numbers of the messages that end a leg of several sports.
+const SESSION: u16 = 18;
+
+const LAP: u16 = 19;
 
 // Before so many records times may fall, and the ride is what follows.
 const FEW: u32 = 64;
@@ -70,13 +75,6 @@ impl Progress {
         self.clock.latest.is_some()
     }
 
-    // Whether the last time is that after other items, and no record more was there.
-    pub(crate) fn is_still_at(&self, other: &Progress) -> bool
-        ensures { result ≡ (self.now.clock.last == other.now.clock.last && self.now.records == other.now.records) }
-    {
-        self.clock.last == other.clock.last && self.records == other.records
-    }
-
     // Whether there were so few records that the ride may be what follows.
     pub(crate) fn has_few(&self) -> bool
         ensures { result ≡ nat_lt self.now.records 64 }
@@ -106,9 +104,19 @@ impl Progress {
         }
         let sign = self.clock.hear(&message, is_compressed(bytes))?;
         if message.global() != RECORD {
+            self.pass_by(message.global());
             return Some(sign);
         }
         self.move_to(&message, sign)
+    }
+
+    // Takes notice of a message of this number that is no record: after one that may end a leg the distance may begin anew.
+    fn pass_by(&mut self, global: u16)
+        ensures { self.new ≡ (record self.old { values = values_beside self.old.values global }) }
+    {
+        if global == SESSION || global == LAP {
+            self.values.distance = None;
+        }
     }
 
     // The same of a record whose time says this.

@@ -3,20 +3,22 @@
 ghost use Rattle.std.specs.Prelude.{◌≡◌, ◌≤◌, ◌<◌, ◌+◌, ◌-◌, ◌*◌, ◌∷◌, ◌++◌, ◌↔◌, ℕ, List, [], true, false, length, drop, min, max, IfOk, IfSome, IsNone, IsTrue, OnOk};
 ghost use Rattle.fit_grammar.specs.Format.Item.{Item as AnyItem};
 ghost use Rattle.fit_grammar.specs.Format.Records.{in_force, Records};
-ghost use Rattle.fit_grammar.specs.Calls.Step.{IsStep};
-ghost use Rattle.fit_grammar.specs.Calls.Table.{definition_in};
+ghost use Rattle.fit_grammar.specs.Calls.Step.{IsStep, item_of};
+ghost use Rattle.fit_grammar.specs.Calls.Table.{definition_in, in_force_after};
 ghost use Rattle.fit_mending.specs.declared.pieces.Piece.{Piece as AnyPiece};
 ghost use Rattle.fit_mending.specs.Pieces.{AreCutFrom, CutsAfter, CutsFaults, IsSkipped, KeepsSteady, kept_row, most_looks};
 ghost use Rattle.fit_mending.specs.Others.{FindsOthers};
+ghost use Rattle.fit_mending.specs.Form.{comes_from_unwritten as comes_from_unwritten_of};
 ghost use Rattle.fit_mending.specs.Judged.{anew as anew_of};
 ghost use Rattle.fit_mending.specs.Private.Counting.{IsFirst, KeepsLooks, PassesLooks, beyond};
 ghost use Rattle.fit_mending.specs.Private.Cut.{AddsPiece, CutsOn, HasAdded, HasNoTrusted, LeavesFrom, PassesRow, ReadsAdded};
 ghost use Rattle.fit_mending.specs.Private.Looking.{PassesOne, ReadsItem};
 ghost use Rattle.fit_mending.specs.Private.Passed.{HasPassed};
-ghost use Rattle.fit_mending.specs.Reading.{MayBegin, ReadsFrom};
+ghost use Rattle.fit_mending.specs.Reading.{IsFollowed, IsWholeBy, MayBegin, ReadsFrom};
 ghost use Rattle.fit_mending.specs.Steady.{HasSound, HasSteady, IsSteady, IsTrusted, Sized, row_size};
 
 use crate::fitting::{fits_after_fault, fits_in_row};
+use crate::form::{comes_from_unwritten, is_unwritten, runs_into_unwritten};
 use crate::looks::Looks;
 use crate::pieces::{Piece, Skipped};
 use crate::progress::Progress;
@@ -42,8 +44,9 @@ const SOON: usize = 65_536;
 
 /// Cuts the bytes from `front` on into pieces, one after another. Some are kept: together they are a row of whole items. After a fault
 /// the next piece is kept from the first place on from which items follow that fit. A fault is where no whole item is, or one that no
-/// device writes, a file_id after a record, or a time, a distance or a position that falls or leaps. Where times fall after more than a
-/// few records, another ride follows, which is left out. If the bytes are `trusted`, since their checksum is right, and are a row of whole
+/// device writes, a file_id after a record, or a time, a distance or a position that falls or leaps. The data message before a fault is
+/// left out too, since a hole may cut it, unless nobody wrote the bytes after it, or they end. Where times fall after more than a few
+/// records, another ride follows, which is left out. If the bytes are `trusted`, since their checksum is right, and are a row of whole
 /// items, all are kept. A row at the front in which nothing is doubtful is kept up to its last 32 items, at least, and after a fault it
 /// goes on no later than at the first trusted row: 256 items in which nothing is doubtful, of which the first is a strong sign. At how
 /// many items it looks ahead is bounded by the number of bytes.
@@ -207,7 +210,7 @@ fn cut_on<'a, T: TakesPieces>(
 ) -> Result<(), T::Fault>
     requires within { from ≤ length bytes.now }
     requires allowed { looks.old.allowed ≤ 2000000 + 64 * from }
-    requires beyond { beyond looks.old ≤ 274 + 274 * from }
+    requires beyond { beyond looks.old ≤ 275 + 275 * from }
     ensures place { T.place pieces.new ≡ T.place pieces.old }
     ensures cut { (taken : List AnyPiece) → T.has_taken pieces.old taken
         → OnOk result ((more : List AnyPiece) × T.has_taken pieces.new more
@@ -221,7 +224,7 @@ fn cut_on<'a, T: TakesPieces>(
     let mut progress = progress;
     let mut at = from;
     while at < bytes.len() {
-        let end = at + pass_items(&bytes[at..], &mut latest, &mut progress, looks);
+        let end = at + pass_from(bytes, at, &mut latest, &mut progress, looks);
         put_piece(pieces, at, end, true)?;
         at = end + count_faulty(&bytes[end..], 1, &latest, &mut progress, looks);
         put_piece(pieces, end, at, false)?;
@@ -266,7 +269,7 @@ fn pass_items<'a>(
     ensures read { PassesRow (definition_in latest.old) progress.old bytes.now result (definition_in latest.new) progress.new }
     // No trusted row goes on from there.
     ensures ends { IsTrusted (definition_in latest.new) progress.new (drop result bytes.now) → ⊥ }
-    ensures looks { PassesLooks looks.old looks.new result (18 * (result + 1)) }
+    ensures looks { PassesLooks looks.old looks.new result (19 * (result + 1)) }
 {
     let mut front = 0;
     while let Some((item, used)) = fitting_item(&bytes[front..], latest, progress, looks) {
@@ -275,6 +278,33 @@ fn pass_items<'a>(
         front += used;
     }
     front
+}
+
+// The same from a place on, where no item is passed if its first byte comes out of a stretch that nobody wrote.
+fn pass_from<'a>(
+    bytes: &'a [u8],
+    at: usize,
+    latest: &mut Latest<'a>,
+    progress: &mut Progress,
+    looks: &mut Looks,
+) -> usize
+    requires { at ≤ length bytes.now }
+    ensures within { result ≤ length (drop at bytes.now) }
+    ensures passed { (before : List AnyItem) → definition_in latest.old ≡ in_force before
+        → HasPassed before (drop at bytes.now) result (definition_in latest.new) }
+    ensures from { 1 ≤ result → comes_from_unwritten_of bytes.now at ≡ false }
+    ensures steady { (row last : List Sized) → 1 ≤ result → 32 ≤ length last
+        → IsSteady (definition_in latest.old) progress.old 0 (drop at bytes.now) (row ++ last)
+        → row_size row ≤ result }
+    ensures read { PassesRow (definition_in latest.old) progress.old (drop at bytes.now) result (definition_in latest.new) progress.new }
+    ensures ends { IsTrusted (definition_in latest.new) progress.new (drop result (drop at bytes.now))
+        → comes_from_unwritten_of bytes.now (at + result) ≡ true }
+    ensures looks { PassesLooks looks.old looks.new result (19 * (result + 1)) }
+{
+    if comes_from_unwritten(bytes, at) {
+        return 0;
+    }
+    pass_items(&bytes[at..], latest, progress, looks)
 }
 
 // The item at the front, with the number of its bytes, if it and what follows it fit. From there on the progress has it. Here it is read to be
@@ -293,21 +323,77 @@ fn fitting_item<'a>(
     ensures read { IfSome result
         (λ found. ReadsItem (definition_in latest.now) progress.old bytes.now found.0 found.1 progress.new) }
     ensures none { IsNone result → progress.new ≡ progress.old }
-    ensures looks { KeepsLooks looks.old looks.new 18 }
+    ensures looks { KeepsLooks looks.old looks.new 19 }
 {
     let Step::Item(item, used) = step_after(bytes, latest) else {
         return None;
     };
+    if runs_into_unwritten(bytes, used) {
+        return None;
+    }
     let mut later = *progress;
     if !goes_on(bytes, latest, &mut later, looks) {
         return None;
     }
     match later.judge(&item, &bytes[..used]) {
         Some(_) => {
+            if !is_whole(&item, &bytes[used..], latest, &later, looks) {
+                return None;
+            }
             *progress = later;
             Some((item, used))
         }
         None => None,
+    }
+}
+
+// Whether no hole cuts an item that these bytes follow. A definition is judged by its form alone.
+fn is_whole<'a>(
+    item: &Item<'a>,
+    rest: &'a [u8],
+    latest: &Latest<'a>,
+    progress: &Progress,
+    looks: &mut Looks,
+) -> bool
+    ensures steady { HasSteady 1 (in_force_after (item_of item.now) (definition_in latest.now)) progress.now rest.now
+        → result ≡ true }
+    ensures whole { result ≡ true → IsWholeBy (item_of item.now) (definition_in latest.now) progress.now rest.now }
+    ensures looks { KeepsLooks looks.old looks.new 1 }
+{
+    match item {
+        Item::Definition(_) => true,
+        Item::Data(_) => is_followed(rest, latest, progress, looks),
+    }
+}
+
+// Whether no fault follows a data message that a hole in it would leave. The next item is none if the bytes end in it, or a stretch that
+// nobody wrote begins in it or before it; and before the first time nothing is one.
+fn is_followed<'a>(
+    rest: &'a [u8],
+    latest: &Latest<'a>,
+    progress: &Progress,
+    looks: &mut Looks,
+) -> bool
+    ensures steady { HasSteady 1 (definition_in latest.now) progress.now rest.now → result ≡ true }
+    ensures followed { result ≡ true → IsFollowed (definition_in latest.now) progress.now rest.now }
+    ensures looks { KeepsLooks looks.old looks.new 1 }
+{
+    if !progress.is_timed() || is_unwritten(rest) {
+        return true;
+    }
+    match looks.look(rest, latest) {
+        Step::Item(item, used) => {
+            if runs_into_unwritten(rest, used) {
+                return true;
+            }
+            let mut later = *progress;
+            match later.judge(&item, &rest[..used]) {
+                Some(_) => true,
+                None => begins_anew(rest, latest, progress, looks),
+            }
+        }
+        Step::NeedMore => true,
+        Step::Refused(_) => false,
     }
 }
 
@@ -344,11 +430,13 @@ fn begins_anew<'a>(
     progress: &Progress,
     looks: &mut Looks,
 ) -> bool
-    ensures { KeepsLooks looks.old looks.new 0 }
+    ensures some { result ≡ true → HasSound (definition_in latest.now) (anew_of progress.now) bytes.now }
+    ensures looks { KeepsLooks looks.old looks.new 0 }
 {
-    looks.are_left()
-        && follows(bytes, latest, &progress.anew(), &ANEW, looks)
-        && (progress.has_few() || !fits_soon(bytes, latest, progress, looks))
+    if !looks.are_left() || !follows(bytes, latest, &progress.anew(), &ANEW, looks) {
+        return false;
+    }
+    progress.has_few() || !fits_soon(bytes, latest, progress, looks)
 }
 
 // Whether items that fit follow from a place soon after the front, or no looks are left to say so.

@@ -3,7 +3,7 @@
 ghost use Rattle.std.specs.Prelude.{◌≡◌, ◌≤◌, ◌<◌, ◌+◌, ◌*◌, ℕ, IfSome, drop, length};
 ghost use Rattle.fit_grammar.specs.Calls.Table.{definition_in};
 ghost use Rattle.fit_mending.specs.Private.Counting.{KeepsLooks, TakesLooks};
-ghost use Rattle.fit_mending.specs.Private.Looking.{FollowsRow, IsEndOf};
+ghost use Rattle.fit_mending.specs.Private.Looking.{AsksSome, FollowsRow, IsEndOf};
 ghost use Rattle.fit_mending.specs.Steady.{HasSound, IsTrusted};
 
 use crate::fitting::after_fault;
@@ -116,8 +116,8 @@ pub(crate) fn after_stray<'a>(
     None
 }
 
-// The bytes after the row of items that fit, if it is not long, where this was before it. The definitions and the progress are then those
-// after it.
+// The bytes after the row of items that fit, if it is not long, where this was before it. The definitions are then those after it, and the
+// progress is that before its last time, which may have changed.
 fn after_row<'a>(
     bytes: &'a [u8],
     before: &Progress,
@@ -128,6 +128,7 @@ fn after_row<'a>(
     ensures end { IfSome result (λ rest. IsEndOf bytes.now rest.now) }
     ensures looks { KeepsLooks looks.old looks.new 0 }
 {
+    let mut now = *progress;
     let mut rest = bytes;
     let mut leap = 0;
     for _ in 0..bytes.len() {
@@ -138,14 +139,17 @@ fn after_row<'a>(
             return Some(rest);
         };
         let (own, others) = rest.split_at(used);
-        let mut later = *progress;
+        let mut later = now;
         if later.judge(&item, own).is_none() {
             return Some(rest);
         }
-        *progress = later;
+        if later.seconds_after(&now) > 0 {
+            *progress = now;
+        }
+        now = later;
         take_over(latest, &item);
         rest = others;
-        let seconds = progress.seconds_after(before);
+        let seconds = now.seconds_after(before);
         if leap == 0 {
             leap = seconds;
         }
@@ -156,7 +160,8 @@ fn after_row<'a>(
     None
 }
 
-// What follows a row soon, if `latest` and `progress` are what was before it, and `own` and `later` what it ends with.
+// What follows a row soon, if `latest` and `progress` are what was before it, and `own` and `later` what it ends with. What fits after the row
+// comes first: an item beside it may have changed.
 fn look_after<'a>(
     bytes: &'a [u8],
     latest: &Latest<'a>,
@@ -168,17 +173,35 @@ fn look_after<'a>(
     ensures is { FollowsRow (definition_in latest.now) progress.now bytes.now result }
     ensures looks { KeepsLooks looks.old looks.new 0 }
 {
+    if let Some(rest) = after_soon(bytes, own, later, after_fault(later), looks) {
+        return Sequel::OfRow(rest);
+    }
+    match after_soon(bytes, latest, progress, &AFTER_STRAY, looks) {
+        Some(rest) => Sequel::OfBefore(rest),
+        None => Sequel::Unrelated,
+    }
+}
+
+// The bytes from the first place soon after the front from which items follow that are worth so much.
+fn after_soon<'a>(
+    bytes: &'a [u8],
+    latest: &Latest<'a>,
+    progress: &Progress,
+    need: &Need,
+    looks: &mut Looks,
+) -> Option<&'a [u8]>
+    ensures end { IfSome result (λ rest. IsEndOf bytes.now rest.now) }
+    ensures some { AsksSome need.now → IfSome result (λ rest. HasSound (definition_in latest.now) progress.now rest.now) }
+    ensures looks { KeepsLooks looks.old looks.new 0 }
+{
     for count in 0..bytes.len().min(SOON) {
         if !looks.are_left() {
-            return Sequel::Unrelated;
+            return None;
         }
         let rest = &bytes[count..];
-        if follows(rest, own, later, after_fault(later), looks) {
-            return Sequel::OfRow(rest);
-        }
-        if follows(rest, latest, progress, &AFTER_STRAY, looks) {
-            return Sequel::OfBefore(rest);
+        if follows(rest, latest, progress, need, looks) {
+            return Some(rest);
         }
     }
-    Sequel::Unrelated
+    None
 }

@@ -7,7 +7,7 @@ ghost use Rattle.fit_mending.specs.Private.Looking.{AsksSome, IsEnough, ahead_wi
 ghost use Rattle.fit_mending.specs.Steady.{HasSound, HasSteady, IsTrusted};
 
 use crate::clock::Sign;
-use crate::form::is_definition;
+use crate::form::{is_definition, runs_into_unwritten};
 use crate::looks::Looks;
 use crate::progress::Progress;
 use fit_grammar::{Latest, Step, take_over};
@@ -167,6 +167,9 @@ pub(crate) fn is_trusted<'a>(
         let Step::Item(item, used) = looks.look(rest, &own) else {
             return false;
         };
+        if runs_into_unwritten(rest, used) {
+            return false;
+        }
         let (own_bytes, others) = rest.split_at(used);
         let Some(sign) = later.judge(&item, own_bytes) else {
             return false;
@@ -207,7 +210,7 @@ fn worth_with(worth: u32, sign: Sign) -> u32
 }
 
 // Whether an item is a sign.
-pub(crate) fn is_sign(sign: Sign) -> bool
+fn is_sign(sign: Sign) -> bool
     ensures { result ≡ is_sign_of sign }
 {
     match sign {

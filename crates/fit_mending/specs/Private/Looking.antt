@@ -12,7 +12,7 @@ use Rattle.fit_mending.specs.declared.stray.Sequel.{Sequel}
 use Rattle.fit_mending.specs.declared.stray.Sequel.TheVariants.{OfBefore, OfRow, Unrelated}
 use Rattle.fit_mending.specs.declared.trial.Need.{Need}
 use Rattle.fit_mending.specs.Judged.{Judgement}
-use Rattle.fit_mending.specs.Reading.{MayBegin}
+use Rattle.fit_mending.specs.Reading.{IsWhole, MayBegin}
 use Rattle.fit_mending.specs.Steady.{HasSound, IsSound, IsSteady, Sized, quiet_after, row_size}
 
 abbrev pub sized : ReadItem → ℕ → Sized
@@ -35,13 +35,6 @@ worth_with worth Doubtful = worth - 4
 worth_with worth Nothing = worth
 worth_with worth Weak = min (worth + 1) 4294967295
 worth_with worth Strong = min (worth + 3) 4294967295
-
--- one doubt, or none
-abbrev pub doubts : Sign → ℕ
-doubts Doubtful = 1
-doubts Nothing = 0
-doubts Weak = 0
-doubts Strong = 0
 
 -- what was looked at, with one more item
 abbrev pub ahead_with : Ahead → Sign → Bool → Need → Ahead
@@ -114,11 +107,11 @@ abbrev pub StaysSteady : ℕ → (ℕ → Option Definition) → Progress → �
 StaysSteady count definition_for progress quiet bytes =
     (row : List Sized) × (256 ≤ count + length row) × IsSteady definition_for progress quiet bytes row
 
--- this item was read, which is no fault, where the ride may have begun anew
+-- this item was read, which is no fault and is whole, where the ride may have begun anew
 abbrev pub ReadsItem : (ℕ → Option Definition) → Progress → List ℕ → ReadItem → ℕ → Progress → Type 0
 ReadsItem definition_for progress bytes item used after =
     (from : Progress) × (judgement : Judgement) × MayBegin progress from
-    × IsSound definition_for from bytes (sized item used) judgement × (judgement.progress ≡ after)
+    × IsSound definition_for from bytes (sized item used) judgement × (judgement.progress ≡ after) × IsWhole definition_for after bytes (sized item used)
 
 -- this item of a row was passed, and these definitions and this progress are those after it
 pub record PassesOne (definition_for : ℕ → Option Definition) (progress : Progress) (bytes : List ℕ) (one : Sized) (row : List Sized)

@@ -39,13 +39,13 @@ pub loop-at-preserved : goal.loop-at-preserved
 loop-at-preserved g c =
     let bytes = c.args.bytes.now in
     let at = c.loop-at.at in
-    let count = c.pass_items.result in
+    let count = c.pass_from.result in
     let was = c.loop-at.invariant in
-    let ends = rw take_rest at c.pass_items.ensures.ends in
-    let passes = rw take_rest at c.pass_items.ensures.passed in
+    let ends = c.pass_from.ensures.ends in
+    let passes = c.pass_from.ensures.passed in
     let counted = c.count_faulty.ensures.looks (omega arith) in
     let passed = some_passed bytes at count c.count_faulty.result (omega (arith, c.loop-at-test.true)) (rw take_rest at c.count_faulty.ensures.some (omega arith)) in
-    let le = within bytes at count was.0 (rw take_rest at c.pass_items.ensures.within) in
+    let le = within bytes at count was.0 c.pass_from.ensures.within in
     let all : at + count + c.count_faulty.result ≤ length bytes =
     within bytes (at + count) c.count_faulty.result le (rw take_rest at c.count_faulty.ensures.within) in (
       all,
@@ -56,13 +56,14 @@ loop-at-preserved g c =
           let left = c.in_ok-put_piece-2.ensures.cut bytes kept.0 all kept.1 in (
             left.0,
             left.1,
-            cuts_more bytes c.args.from (definition_in c.args.latest) (definition_in c.loop-at.latest) (definition_in c.pass_items.new.latest)
+            cuts_more bytes c.args.from (definition_in c.args.latest) (definition_in c.loop-at.latest) (definition_in c.pass_from.new.latest)
                 at count (at + count + c.count_faulty.result) taken before.0 kept.0 left.0 before.2 passes kept.2 left.2,
             added_more taken before.0 left.0 before.3 (added_more before.0 kept.0 left.0 kept.2.added left.2.added),
-            up_to_more bytes (definition_in c.args.latest) (definition_in c.loop-at.latest) (definition_in c.pass_items.new.latest)
-                c.args.progress c.loop-at.progress c.pass_items.new.progress c.count_faulty.new.progress at count c.count_faulty.result taken
-                before.0 kept.0 left.0 before.4 (rw take_rest at c.pass_items.ensures.read) (rw take_rest at c.pass_items.ensures.steady)
-                (λ trusted. ends (subst (IsTrusted (definition_in c.pass_items.new.latest) c.pass_items.new.progress) (sym (drop-drop count at bytes)) trusted))
+            up_to_more bytes (definition_in c.args.latest) (definition_in c.loop-at.latest) (definition_in c.pass_from.new.latest)
+                c.args.progress c.loop-at.progress c.pass_from.new.progress c.count_faulty.new.progress at count c.count_faulty.result taken
+                before.0 kept.0 left.0 before.4 c.pass_from.ensures.read c.pass_from.ensures.steady
+                c.pass_from.ensures.from
+                (λ trusted. ends (subst (IsTrusted (definition_in c.pass_from.new.latest) c.pass_from.new.progress) (sym (drop-drop count at bytes)) trusted))
                 (rw take_rest at c.count_faulty.ensures.left) kept.2.one left.2.one,
           ),
       omega (arith, was.3, counted.1),

@@ -11,7 +11,7 @@ invariant-loop-at g l = (l.at ≤ length l.bytes) × (g.T.TakesPieces.place l.pi
     → (more : List Piece) × g.T.TakesPieces.has_taken l.pieces more
     × CutsTo l.bytes l.from (definition_in l.initial.latest) taken l.at (definition_in l.latest) more × HasAdded taken more
     × ReadsUpTo l.bytes (definition_in l.initial.latest) l.initial.progress taken (definition_in l.latest) l.progress more)
-    × (l.looks.allowed ≤ 2000000 + 64 * l.at) × (beyond l.looks ≤ 274 + 274 * l.at)
+    × (l.looks.allowed ≤ 2000000 + 64 * l.at) × (beyond l.looks ≤ 275 + 275 * l.at)
     × (l.initial.looks.taken ≤ l.looks.taken)
 
 abbrev pub decreases-loop-at : goal.decreases-loop-at

@@ -19,7 +19,7 @@ invariant-loop-item l = (l.front ≤ length l.bytes)
     → PassesTo (definition_in l.latest) l.progress l.bytes l.front (row_size row) last)
     × ((row : List Sized) (after : Progress) → ReadsRow (definition_in l.latest) l.progress (drop l.front l.bytes) row after
     → PassesRow (definition_in l.initial.latest) l.initial.progress l.bytes (l.front + row_size row) (after_row (definition_in l.latest) row) after)
-    × PassesLooks l.initial.looks l.looks l.front (18 * l.front)
+    × PassesLooks l.initial.looks l.looks l.front (19 * l.front)
 
 abbrev pub decreases-loop-item : goal.decreases-loop-item
 decreases-loop-item l = length l.bytes - l.front
