@@ -21,6 +21,8 @@ HEADERS = {"stdbool.h": "#define bool _Bool\n#define true 1\n#define false 0\n",
            "stdint.h": "".join("typedef __%sINT%d_TYPE__ %sint%d_t;\n" % (sign, bits, sign.lower(), bits) for sign in ("", "U") for bits in (8, 16, 32, 64))
            + "#define UINT32_MAX __UINT32_MAX__\n",
            "string.h": "#include <stddef.h>\nvoid *memset(void *, int, size_t);\n"}
+# Prints the version of zopfli, in a line, which it does not tell itself.
+ZOPFLI = ["dpkg-query", "-W", "-f", "zopfli ${Version}\n", "zopfli"]
 # Prints the versions of what makes the wheel, in a line: Debian's python3-pip, python3-setuptools and python3-wheel.
 WHEEL_TOOLS = ["/usr/bin/python3", "-c", "import importlib.metadata as it; print(*(w for n in ('pip', 'setuptools', 'wheel') for w in (n, it.version(n))))"]
 

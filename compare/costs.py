@@ -23,7 +23,7 @@ CHUNK = 65536
 # The fields of a record: number, size, base type.
 FIELDS = [(0, 4, 0x85), (1, 4, 0x85), (2, 2, 0x84), (3, 1, 2), (4, 1, 2), (5, 4, 0x86), (6, 2, 0x84), (7, 2, 0x84), (13, 1, 1)]
 # Instructions for each byte of a file of records, and for each sample of a script. Who changes one by more than a fiftieth states it here.
-INSTRUCTIONS = {"show": 45.9, "show --json": 57.3, "check": 12.2, "plain": 21.8, "replay": 8620}
+INSTRUCTIONS = {"show": 45.9, "show --json": 57.3, "check": 12.2, "plain": 21.8, "replay": 8880}
 
 
 def peak(traced, *words, **how):

@@ -1,12 +1,17 @@
-"""The structs of include/fitrec.h and fitrec_device.h and those of the Rattle crates: sizes, and places of the fields."""
+"""The structs of include/fitrec.h and fitrec_device.h and those of the Rattle crates: sizes, and places of the fields. A struct that C
+and Rattle share has a row in STRUCTS."""
 
 import pathlib
 import re
 import subprocess
+import sys
 import tempfile
 
 from tools.checks import differs
 from tools.program import ROOT
+
+sys.path.insert(0, str(ROOT))
+from kept import below
 
 NEEDS = ("cc",)
 # Each struct of the header with the one that the library takes for it. Of a recorder and a recovery only the first fields are the host's.
@@ -17,15 +22,17 @@ OWN = ("numbers",)
 
 
 def rattle():
-    """The fields of each struct that has the layout of C, and the constants that their types name."""
+    """The fields of each struct that has the layout of C, in the crates that the libraries have, and the constants that their types name.
+    A name stands for the constant of its own crate, if that has one."""
     structs, constants = {}, {}
-    for path in ROOT.glob("crates/*/src/**/*.rt"):
-        text = re.sub(r"//.*", "", path.read_text())
-        constants.update(re.findall(r"const (\w+): usize = (\d+);", text))
-        for name, body in re.findall(r"#\[repr\(C\)\]\s*(?:#\[[^\]]*\]\s*)*pub struct (\w+) \{(.*?)\n\}", text, re.S):
+    for crate in {*below("fit_c"), *below("fit_device")}:
+        texts = [re.sub(r"//.*", "", it.read_text()) for it in (ROOT / "crates" / crate / "src").rglob("*.rt")]
+        own = dict(it for text in texts for it in re.findall(r"const (\w+): usize = (\d+);", text))
+        constants.update(own)
+        for name, body in (it for text in texts for it in re.findall(r"#\[repr\(C\)\]\s*(?:#\[[^\]]*\]\s*)*pub struct (\w+) \{(.*?)\n\}", text, re.S)):
             lines = [line.strip() for line in body.splitlines()]
             fields = [re.fullmatch(r"(?:pub(?:\(crate\))? )?(\w+): (.*?),", line) for line in lines if not re.match(r"(pub )?ghost ", line)]
-            structs[name] = [it.groups() for it in fields if it]
+            structs[name] = [(it[1], re.sub(r"(?<=; )\w+(?=\])", lambda size: own.get(size[0], size[0]), it[2])) for it in fields if it]
     return structs, constants
 
 

@@ -1,3 +1,5 @@
+/* The calls of these lives, and what is judged after each start (lives.h). Nothing here knows the disk: the program that this is linked
+ * with defines the functions `disk_..`. */
 #include "lives.h"
 
 struct fitrec_session session;

@@ -20,7 +20,7 @@ from tools.release import OBJECTS, RELEASE, is_of_these_sources, kept, said_by, 
 from tools.rides import script_of
 
 NEEDS = ("fitrec", "node", "dpkg", "rt", "cc", "python3-setuptools", "python3-wheel", "python3-pip")
-MOST = 3_150_000
+MOST = 3_200_000
 # What is taken as it stands in the tree.
 COPIED = ["include/fitrec.h", "include/fitrec_device.h", "docs/fitrec.1", "completions/fitrec.bash", "completions/_fitrec", "completions/fitrec.fish"]
 MADE = ["fitrec", "fitrec.html", "manifest.webmanifest", "service-worker.js", "icon.svg", "libfit_c.a", "libfit_device.a", "libfitrec.so", *OBJECTS]
@@ -177,9 +177,10 @@ def of_a_clone(fitrec):
         if missing("node"):
             yield "the page of a clone", missing("node")
         else:
-            # The page has its scripts and the module deflated; the module is longer.
-            module = max(re.findall(r'"([^"\n]{1000,})"', (folder / "clone/release/fitrec.html").read_text()), key=len)
-            (folder / "module.wasm").write_bytes(zlib.decompress(bytes_in(module)))
+            # The page has its scripts and the module deflated, and a module begins with these bytes.
+            packed = re.findall(r'"([^"\n]{1000,})"', (folder / "clone/release/fitrec.html").read_text())
+            (module,) = (it for it in (zlib.decompress(bytes_in(it)) for it in packed) if it.startswith(b"\0asm"))
+            (folder / "module.wasm").write_bytes(module)
             words = ["save", folder / "FOLDER/activity.fit", folder / "FOLDER/activity.frj", folder / "page.fit"]
             said = run(ROOT / "compare/module.mjs", *words, env=os.environ | {"FITREC_MODULE": str(folder / "module.wasm")})
             wanted = 0, "0\n" + wanted[1], ""

@@ -1,4 +1,5 @@
-/* littlefs by its own names. The package that it is taken from has a 2 in each. */
+/* littlefs by its own names, for nor.c and examples/device/littlefs.c. The package that it is taken from has a 2 in each. A name that
+   one of them begins to use has a line here. */
 #include "lfs2.h"
 
 #define lfs_t lfs2_t

@@ -1,4 +1,5 @@
-/* Boots, records, and tries the states. */
+/* Where the guest starts: it boots, records the story that the setting `mode` names, and judges the disks that power cuts may leave of it.
+ * A new story is declared in guest.h and chosen in `main`. */
 #include "guest.h"
 #include <malloc.h>
 #include <sys/mount.h>

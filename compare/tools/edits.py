@@ -11,6 +11,8 @@ PLACE = re.compile(r"(?:note: )?(?:\./)?(src/\S+?):(\d+):\d+: .*(\bnot proved\b|
 PROOF = re.compile(r"(?:\./)?proofs/(\S+?)(?:/[A-Z]\w*)?/\+?(\w+)/\w+\.antt:\d+:\d+: (.*)")
 # What is printed for a proof that was not checked, because something that it names does not exist.
 LOST = re.compile(r"not admitted|not checked|was rejected|not in scope|has no ")
+# What is printed of those that name a declaration that failed, which has a line of its own.
+BELOW = re.compile(r"error: \d+ declarations? that depends? on `[^`]*`, which was rejected, w(?:as|ere) not checked")
 
 
 def functions_of(text):
@@ -94,7 +96,7 @@ def refused_in(rt, batch, texts, ran):
     if ran.returncode != 1 or not lines[-1].startswith(("logic=not-proved", "only=")) or any(rt.unread(it, texts) for it in lines):
         return None
     places = [(at[1], int(at[2])) for at in map(PLACE.match, lines) if at]
-    proofs = [((f"src/{at[1]}.rt", at[2]), at[3]) for at in map(PROOF.match, lines) if at]
+    proofs = [((f"src/{at[1]}.rt", at[2]), at[3]) for at in map(PROOF.match, lines) if at and not BELOW.match(at[3])]
     lost = [at for at, words in proofs if LOST.search(words)]
     failed = [at for at, words in proofs if words.startswith("error") and at not in lost]
     found = {}

@@ -8,7 +8,7 @@ from tools.checks import Skipped
 
 PACKAGES = {
     "cc": "gcc and libc6-dev", "valgrind": "valgrind", "man": "man-db", "gpsbabel": "gpsbabel", "node": "nodejs", "wasm-opt": "binaryen",
-    "esbuild": "esbuild", "tsc": "node-typescript", "chromium": "chromium", "firefox-esr": "firefox-esr",
+    "esbuild": "esbuild", "zopfli": "zopfli", "tsc": "node-typescript", "chromium": "chromium", "firefox-esr": "firefox-esr",
     "WebKitWebDriver": "webkit2gtk-driver", "Xvfb": "xvfb",
     "linux.uml": "user-mode-linux", "libc.a": "libc6-dev", "mkfs.ext4": "e2fsprogs", "mkfs.xfs": "xfsprogs",
     "mkfs.btrfs": "btrfs-progs", "mkfs.vfat": "dosfstools", "wasm2c": "wabt", "arm-none-eabi-gcc": "gcc-arm-none-eabi",

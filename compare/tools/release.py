@@ -40,7 +40,8 @@ def is_of_these_sources(release):
 def why_not(name):
     """Why a file that is made here may have other bytes than the released one, or None."""
     of = stated(RELEASE)
-    tools = {"fitrec.html": [(it, (it, "--version")) for it in ("wasm-opt", "esbuild")], ".whl": [("pip", kept.WHEEL_TOOLS)]}
+    of_page = [*((it, (it, "--version")) for it in ("wasm-opt", "esbuild")), ("zopfli", kept.ZOPFLI)]
+    tools = {"fitrec.html": of_page, ".whl": [("pip", kept.WHEEL_TOOLS)]}
     for word, here in (("kit", ("rt", "version")), *next((tools[it] for it in tools if name.endswith(it)), [])):
         found = said_by(*here).removeprefix(word + " ") if shutil.which(here[0]) else "none"
         if found != of.get(word):
