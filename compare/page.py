@@ -28,7 +28,7 @@ from tools.library_calls import of_files, of_finished, of_joined, of_mended, of_
 from tools.needs import missing
 from tools.page_app import of_a_long_ride, of_an_app
 from tools.page_cards import of_cards, of_long_cards
-from tools.page_clocks import of_clocks, of_other_clocks, of_set_clocks
+from tools.page_clocks import of_clocks, of_clocks_ahead, of_other_clocks, of_set_clocks
 from tools.page_files import of_choosing, of_inputs, of_lists
 from tools.page_forms import of_archives, of_exports
 from tools.page_halves import of_halves
@@ -37,17 +37,18 @@ from tools.page_holes import (of_chains, of_ends_and_pauses, of_holes, of_leaps,
 from tools.page_layout import of_layout, of_many_laps
 from tools.page_people import of_choices, of_kept_choices, of_people
 from tools.page_rides import of_looking, of_numbers
+from tools.page_told import of_copies, of_kinds, of_lost_fronts, of_other_words, of_pieces
 from tools.page_values import of_values
 from tools.page_words import of_words
 from tools.pages import RIDE, START, both, recorded, tour
 from tools.program import FITREC, NAMES, ROOT, run
 from tools.visits import PAGE, Browser
 
-NEEDS = ("fitrec", "rt", "node", "wasm-opt", "esbuild", "tsc", "chromium", "firefox-esr", "WebKitWebDriver", "Xvfb")
+NEEDS = ("fitrec", "rt", "node", "wasm-opt", "esbuild", "zopfli", "tsc", "chromium", "firefox-esr", "WebKitWebDriver", "Xvfb")
 WEB, MODULE = ROOT / "web", ROOT / "compare/module.mjs"
 GROUPS = (of_inputs, of_words, of_choosing, of_lists, of_archives, of_cards, of_long_cards, of_holes, of_no_messages, of_ends_and_pauses,
           of_chains, of_leaps, of_silences, of_unread_ends, of_what_is_lost, of_numbers, of_values, of_looking, of_exports, of_layout,
-          of_many_laps, of_people, of_choices, of_kept_choices, of_clocks, of_set_clocks, of_other_clocks, of_halves, of_an_app, of_a_long_ride)
+          of_many_laps, of_people, of_choices, of_kept_choices, of_clocks, of_set_clocks, of_clocks_ahead, of_other_clocks, of_halves, of_lost_fronts, of_pieces, of_copies, of_kinds, of_other_words, of_an_app, of_a_long_ride)
 # The browsers, what drives each, and the groups of visits that it makes. Chromium makes all, and the others those that show whether a browser
 # does what the page asks of it. What WebKit has no way to, such as a narrow window, is left out of its visits.
 BROWSERS = {
@@ -149,6 +150,49 @@ def of_calls(fitrec, many, seed):
             yield it["name"], differs(answer, right, it["files"])
 
 
+# Damaged files that look as if one bit had changed, or as if parts stood elsewhere, are not put right by chance.
+UNDONE = '''
+import { readFileSync } from 'node:fs';
+import { open } from 'file://%(web)s/fitrec.mjs';
+import { answerTo } from 'file://%(web)s/saving.js';
+const fitrec = await open(readFileSync('%(module)s')), said = [];
+for (const path of JSON.parse('%(paths)s')) {
+  const { reasons, file } = await answerTo(fitrec, { name: 'ride.fit', data: new Uint8Array(readFileSync(path)) }, []);
+  said.push([reasons.some(([key]) => /^(bit|order|text)Why$/.test(key)), file ? Buffer.from(file).toString('hex') : '']);
+}
+console.log(JSON.stringify(said));
+'''
+
+
+def of_undone(fitrec, many, seed):
+    """What is undone of a damage is undone rightly: of many files in which bits, or bytes in a row, have changed by chance."""
+    pick, made = random.Random(seed), []
+    with tempfile.TemporaryDirectory() as scratch:
+        folder = pathlib.Path(scratch)
+        run(fitrec, "save", recorded(fitrec, folder / "tour", tour(900)), folder / "tour.fit")
+        whole = (folder / "tour.fit").read_bytes()
+        for at in range(many):
+            data, kind = bytearray(whole), at % 4
+            places = [pick.randrange(100, len(whole) - 600) for _ in range(1 + (kind == 1))]
+            if kind < 2:
+                for place in places:
+                    data[place] ^= 1 << pick.randrange(8)
+            else:
+                size = 16 if kind == 2 else 512
+                data[places[0]:places[0] + size] = pick.choice((bytes(size), b"\xFF" * size, pick.randbytes(size)))
+            made.append(folder / ("%d.fit" % at))
+            made[-1].write_bytes(data)
+        paths = json.dumps([str(it) for it in made])
+        script = UNDONE % {"web": WEB, "module": WEB / "out/fit_c.wasm", "paths": paths}
+        status, out, err = run("node", "--input-type=module", "-e", script)
+        yield "answered", differs((status, err), (0, ""))
+        said = json.loads(out or "[]")
+        for at, (is_undone, content) in enumerate(said):
+            yield "damage %d" % at, unless(not is_undone or content == whole.hex(), "another file", "as it was")
+        share = sum(is_undone for is_undone, _ in said[::4]) / max(1, len(said[::4]))
+        yield "single bits", unless(share > 0.2, share, "a fifth, for those that are seen")
+
+
 def visited(group, name, fitrec):
     """A group of visits by a browser, in a new folder."""
     absent = missing(*BROWSERS[name][0])
@@ -179,8 +223,9 @@ def proved_and_built():
 
 
 def check(given):
-    if missing("node", "wasm-opt", "esbuild"):
-        yield "the page and its module", missing("node", "wasm-opt", "esbuild")
+    absent = missing("node", "wasm-opt", "esbuild", "zopfli")
+    if absent:
+        yield "the page and its module", absent
         return
     yield from given.checks(of_modules)
     yield from given.checks(proved_and_built)
@@ -193,6 +238,7 @@ def check(given):
                         (of_shifted, count // 4), (of_joined, count // 4), (of_shown_and_checked, count // 4)):
         yield from given.checks(group, given.fitrec, MODULE, many, given.seed, under="module")
     yield from given.checks(of_calls, given.fitrec, given.files // 60, given.seed)
+    yield from given.checks(of_undone, given.fitrec, given.files // 25, given.seed)
     for name, (_, groups) in BROWSERS.items():
         for group in groups:
             yield from given.checks(functools.update_wrapper(functools.partial(visited, group, name), group), given.fitrec, under=name)

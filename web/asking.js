@@ -1,6 +1,7 @@
 // What the workers are asked, and the answer to a ride.
 
 import { bytesOf, keptOf } from './picking.js';
+import { shortRide } from './rehearsal.js';
 import { isLittle } from './telling.js';
 import { progress } from './waiting.js';
 
@@ -58,14 +59,21 @@ export async function ask(ride, how, seconds = 0) {
   const lent = [given.data, given.journal, ...(given.parts || [])].filter(it => it && it.length).map(it => it.buffer);
   const answer = await question(saver, { ride: { ...given, seconds }, how }, lent);
   if (answer.failed) return failure([answer.failed]);
+  // The layout of our own recordings is known.
+  if (answer.isUnknown && answer.isByUs && !ride.like) {
+    const own = await ask({ ...ride, like: new Blob([shortRide()[0]]), likeName: '' }, how, seconds);
+    if (own.ride && own.ride.time.length && !own.isUnknown) return own;
+  }
   const { shown = answer.file, ...said } = answer;
   if (!shown) return said;
-  const { gaps, isOurs, isSaved, summary } = said, records = summary && summary.records, isSame = answer.shown && !journal;
+  const { gaps, isOurs, ownLaps, isSaved, summary } = said, records = summary && summary.records, isSame = answer.shown && !journal;
   const before = ahead && (isSaved ? closed(await ahead, summary) : isSame && await ahead);
-  const seen = before || await drawn([shown], { records, gaps, isOurs });
+  const seen = before || await drawn([shown], { records, gaps, isOurs, ownLaps });
   if (seen.failed) return failure([seen.failed]);
   if (said.file && said.heading !== 'otherKind' && !seen.added.records && !seen.laps.count && !seen.sums.sessions) return ofNoSample(said, ride);
-  return { ...said, heading: headingOf(said, seen), ride: seen };
+  const mayBe = { ahead: seen.silent.some(([, , , by]) => by), places: seen.track && seen.track.stray.count };
+  const more = said.heading === 'otherKind' ? [] : Object.keys(mayBe).filter(it => mayBe[it]);
+  return { ...said, heading: headingOf(said, seen), ride: seen, offers: [...more, ...said.offers] };
 }
 
 // Where not a single sample is there: none was recorded, or none can be read.
@@ -81,7 +89,7 @@ function ofNoSample({ gaps, details, isCut, isUnknown, next: asked }, { journal,
 // A ride of which a few seconds are missing is there, and one without samples is not.
 function headingOf({ heading, reasons }, { missing, added }) {
   if (!added.records && ['rescued', 'mostly', 'partly'].includes(heading)) return 'totals';
-  const isCut = reasons.some(([key]) => /^(cut|olderAfter)/.test(key)), isThere = missing.length && missing.every(isLittle);
+  const isCut = reasons.some(([key]) => /^(cut|olderAfter|laterAfter)/.test(key)), isThere = missing.length && missing.every(isLittle);
   return heading === 'mostly' && isThere && !isCut ? 'rescued' : heading;
 }
 

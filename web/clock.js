@@ -16,13 +16,14 @@ export function clockOf({ heading, seconds = 0, ride }, { of: { start } }) {
 
 // The question. A clock that began anew says nothing, so its field is empty. `move` takes by how many seconds all times are moved.
 /** @param {{ said: number, isWrong: boolean }} clock @param {Answer} answer @param {(seconds: number) => void} move */
-export function questionOf({ said, isWrong }, { seconds = 0, ride }, move) {
+export function questionOf({ said, isWrong }, { seconds = 0, ride, isUndated }, move) {
+  const isPart = ride.missing.some(it => it && it.from === null), isLost = isUndated && !seconds;
   const begin = said + seconds, value = isReset(begin) ? '' : fieldText(begin), step = value ? 1 : 60, isAsked = isWrong && !seconds;
   const field = make('input', { id: 'began', type: 'datetime-local', required: true, min: EARLIEST, max: latest(), step, value });
-  const why = isWrong ? make('p', { id: 'beganWhy' }, text('clockWrong', { date: dateText(said) })) : null;
+  const why = isWrong && (isLost || !isUndated) ? make('p', { id: 'beganWhy' }, isLost ? text('dateLost') : text('clockWrong', { date: dateText(said) })) : null;
   const answer = make('button', { id: 'moveTimes', className: isAsked ? '' : 'second' }, text('moveTimes'));
   const back = make('button', { type: 'button', id: 'keepTimes', className: 'second', hidden: !seconds }, text('offer_times'));
-  const form = make('form', { className: 'clock' }, why, make('label', { htmlFor: 'began' }, headingText('began', wordsOf(ride))),
+  const form = make('form', { className: 'clock' }, why, make('label', { htmlFor: 'began' }, isPart ? text('beganPart') : headingText('began', wordsOf(ride))),
     make('p', { className: 'buttons' }, field, answer, back));
   if (why) field.setAttribute('aria-describedby', why.id);
   back.addEventListener('click', () => move(0));

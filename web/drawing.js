@@ -52,11 +52,11 @@ function linesOf(parts, grid) {
   return { line, bars };
 }
 
-// The track, with a path for each class of each series that can colour it, and what leads from degrees to its picture. North is up.
-// Longitudes go on beyond 180 degrees; `long` is changed to them. No device is at 0 degrees north and east, which are bytes that were never
-// written: such positions are taken out of both.
-/** @param {{ lat: Float64Array, long: Float64Array, series: Series[], breaks: number[] }} ride @returns {Track | null} */
-export function trackOf({ lat, long, series, breaks }) {
+// Where the places of a track are, across and up, without those that are far from all others, and by how many degrees of latitude one is; null
+// if there are none. Longitudes go on beyond 180 degrees; `long` is changed to them. No device is at 0 degrees north and east, which are bytes
+// that were never written: such positions are taken out of both.
+/** @param {Float64Array} lat @param {Float64Array} long */
+export function placesIn(lat, long) {
   let last = NaN, faults = 0;
   for (let i = 0; i < long.length; i++) {
     if (long[i] === 0 && lat[i] === 0) {
@@ -71,15 +71,33 @@ export function trackOf({ lat, long, series, breaks }) {
   }
   const across = plausible(long, extremesOf(long), 0.002), up = plausible(lat, extremesOf(lat), 0.002);
   if (!(across.to >= across.from && up.to >= up.from)) return null;
-  const narrow = Math.max(0.01, Math.cos((up.from + up.to) / 2 * Math.PI / 180)), wide = Math.max((across.to - across.from) * narrow, 2e-4);
+  const narrow = Math.max(0.01, Math.cos((up.from + up.to) / 2 * Math.PI / 180)), middleX = (across.from + across.to) / 2;
+  const off = (n, { from, to }) => Math.max(from - n, n - to, 0);
+  const farOf = (y, x) => Math.hypot(off(x - 360 * Math.round((x - middleX) / 360), across) * narrow, off(y, up));
+  return { across, up, narrow, middleX, faults, farOf };
+}
+
+// The track, with a path for each class of each series that can colour it, and what leads from degrees to its picture. North is up.
+/** @param {{ lat: Float64Array, long: Float64Array, series: Series[], breaks: number[] }} ride @returns {Track | null} */
+export function trackOf({ lat, long, series, breaks }) {
+  const places = placesIn(lat, long);
+  if (!places) return null;
+  const { across, up, narrow, middleX, faults, farOf } = places, wide = Math.max((across.to - across.from) * narrow, 2e-4);
   const tall = Math.max(up.to - up.from, 2e-4), { width, least, most, edge } = TRACK;
   const scale = Math.min((width - 2 * edge) / wide, (most - 2 * edge) / tall), height = Math.max(least, tall * scale + 2 * edge);
-  const frame = { width, height, scale, narrow, middleX: (across.from + across.to) / 2, middleY: (up.from + up.to) / 2 };
+  const frame = { width, height, scale, narrow, middleX, middleY: (up.from + up.to) / 2 };
   const colours = series.filter(it => it.name === 'speed' || it.name === 'heart'), points = [];
   let count = 0, lastX = 0, lastY = 0;
+  const stray = { count: 0, cm: 0 }, metres = 111194.9 / scale;
   for (let i = 0, k = 0, isBroken = 1; i < lat.length; i++) {
     if (i === breaks[k]) isBroken = ++k;
-    if (!(long[i] >= across.from && long[i] <= across.to && lat[i] >= up.from && lat[i] <= up.to)) continue;
+    if (long[i] !== long[i]) continue;
+    const far = farOf(lat[i], long[i]);
+    if (far > 0) {
+      stray.count++;
+      stray.cm = Math.max(stray.cm, far * scale * metres * 100);
+      continue;
+    }
     const x = width / 2 + (long[i] - frame.middleX) * narrow * scale, y = height / 2 + (frame.middleY - lat[i]) * scale;
     count++;
     if (!isBroken && Math.abs(x - lastX) + Math.abs(y - lastY) < 1) continue;
@@ -88,7 +106,7 @@ export function trackOf({ lat, long, series, breaks }) {
   }
   const first = points[0].i, finish = long.findLastIndex(n => n >= across.from && n <= across.to);
   const paths = [{ name: 'plain', paths: classesOf(points, () => 0, 1) }, ...colours.map(it => colouredBy(points, it))];
-  return { ...frame, count, faults, first, finish, paths, metres: 111194.9 / scale };
+  return { ...frame, count, faults, stray, first, finish, paths, metres };
 }
 
 function colouredBy(points, { name, values, from, to }) {

@@ -9,12 +9,12 @@ const ROWS = 200;
 
 /** @param {Laps} laps */
 export function lapTable(laps) {
-  const { count, start, timer, distance, isOpen } = laps, isMeasured = distance.some(n => n === n);
+  const { count, number, start, timer, distance, isOpen } = laps, isMeasured = distance.some(n => n === n);
   const speedIn = k => speedOf({ distance: distance[k], timer: timer[k] }), shown = (n, of) => n === n && n !== null ? of(n) : '';
   const isThere = name => laps[name] && laps[name].some(n => n === n);
   const value = (name, series) => isThere(name) && [name, k => shown(laps[name][k], n => valueText(series, n))];
   const columns = [
-    ['lap', k => numberText(k + 1) + (isOpen && k === count - 1 ? '*' : '')],
+    ['lap', k => numberText(number[k]) + (isOpen && k === count - 1 ? '*' : '')],
     ['begun', k => clockText(start[k], start[0], 1)],
     ['moving', k => durationText(timer[k])],
     isMeasured && ['distance', k => shown(distance[k], distanceText)],

@@ -8,10 +8,10 @@ import { isDated } from './dates.js';
 import { byId, make } from './dom.js';
 import { dayText, LANGUAGE, LANGUAGES, measureIn, nameText, speak, SYSTEM, SYSTEMS, text } from './formats.js';
 import { lapTable } from './laps.js';
-import { filesOf, keep, pairsIn, ridesIn, ridesOf } from './picking.js';
+import { filesOf, keep, oneOf, pairsIn, ridesIn, ridesOf, wholesOf } from './picking.js';
 import { shortRide } from './rehearsal.js';
 import { isOpen, link, offer, tookIt } from './taking.js';
-import { factsIn, headingText, numbersOf, partsAmong, speedOf, told, wordsOf } from './telling.js';
+import { copiesAmong, factsIn, headingText, numbersOf, partsAmong, speedOf, told, wordsOf } from './telling.js';
 import { placeOn, trackPicture } from './track.js';
 import { unpacked } from './unpacking.js';
 import { work, workOn } from './waiting.js';
@@ -36,21 +36,31 @@ async function readLike(ride, { data, name }) {
   return drawn && drawn.time.length && !isUnknown && heading !== 'otherKind' ? like : null;
 }
 
+const together = pair => oneOf(pair, copies => question(saver, { copies }));
+
+// The ride that is shown put together with the one file that is chosen, if both are pieces or copies of one; or null.
+async function inOne(found) {
+  if (!current || found.length !== 1 || current.halves) return null;
+  const { rides: [whole, ...more] } = await wholesOf([current, ...found], [], cuts => question(saver, { cuts }));
+  return more.length ? together([current, ...found]) : whole;
+}
+
 async function take(files) {
   const mine = ++turn;
   work(true);
   byId('list').hidden = byId('result').hidden = true;
   try {
-    const { files: chosen, cut } = await unpacked(await files, () => mine === turn), { rides: found, others: rest } = await ridesOf(chosen);
-    for (const ride of found) if (mine === turn) await keep(ride);
-    const same = await pairsIn(found), isRefused = found.some(it => it.isArchive);
+    const { files: chosen, cut } = await unpacked(await files, () => mine === turn), { rides: given, rest, others: count } = await ridesOf(chosen);
+    for (const ride of given) if (mine === turn) await keep(ride);
+    const same = await pairsIn(given), isRefused = given.some(it => it.isArchive), copies = same.map(([it]) => it).filter(it => !it.isPart);
+    const { rides: found, rest: left } = await wholesOf(given.filter(it => !copies.includes(it)), rest, cuts => question(saver, { cuts }));
     /** @type {Said[]} */
     const notes = isRefused ? [] : cut.map(name => ['archiveCut', { name }]), images = chosen.filter(it => it.isPart).map(it => it.folder);
     for (const it of new Set(images)) notes.push(['onlyWhole', { name: it.slice(0, -1) }]);
     if (same.length > 1) notes.push(['sameFiles', { count: same.length }]);
     else for (const [own, other] of same) notes.push(['sameFile', { name: own.folder + own.name, other: other.folder + other.name }]);
     if (mine !== turn) return;
-    const own = completed(found), isHelp = !own && current && current.isUnknown && found.length === 1 && found[0].data;
+    const own = completed(found) || await inOne(found), isHelp = !own && current && current.isUnknown && found.length === 1 && found[0].data;
     const whole = isHelp ? await readLike(current, found[0]) : own;
     if (mine !== turn) return;
     if (whole) {
@@ -60,7 +70,7 @@ async function take(files) {
     if (isHelp) notes.push(['likeNot', { name: current.name, like: found[0].name }]);
     if (found.length === 1) found[0].said = notes;
     rides = found;
-    [shownNotes, others] = [notes, rest];
+    [shownNotes, others] = [notes, Math.max(0, count - rest.length + left.length)];
     await (rides.length > 1 ? presentAll(mine) : choose(rides[0] || null));
   } catch (error) {
     if (mine !== turn) return;
@@ -91,17 +101,21 @@ async function choose(ride, how = ride && ride.how || [], seconds = ride && ride
   work(false);
 }
 
+// Whether the times of a file that is whole are wrong.
+const isWholeOff = ({ heading, ride }, clock) => heading === 'whole' && (clock && clock.isWrong || ride && ride.back !== null);
+
 // What the list says of a ride, and by which offers it was made, with its times moved by how many seconds.
 function note(ride, how, answer) {
   const { heading, file, seconds = 0, isUnknown } = answer, facts = factsIn(answer);
   name(ride, answer, facts.of.start);
   Object.assign(ride, { how, seconds, heading, file, isUnknown, words: wordsOf(answer.ride), facts,
-    from: answer.ride && answer.ride.distance.find(it => it >= 0), isTaken: false, isDownloaded: false });
+    isOff: isWholeOff(answer, clockOf(answer, facts)), times: answer.ride && heading !== 'whole' ? answer.ride.time : undefined,
+    id: answer.ride && answer.ride.id, from: answer.ride && answer.ride.distance.find(it => it >= 0), isTaken: false, isDownloaded: false });
 }
 
 // The name of a new file: by the day on which the activity began, where the browser is.
 function name(ride, answer, start) {
-  const original = ride.name.replace(/\.[^.]*$/, ''), isDay = isDated(start);
+  const original = ride.name.replace(/\.[^.]*$/, ''), isDay = isDated(start) && answer.heading !== 'otherKind';
   const base = isDay ? `${dayText(start)}-${wordsOf(answer.ride)}` : answer.file ? original + '-rescued' : original;
   const taken = rides.filter(it => it !== ride && it.file && !(ride.halves || []).includes(it)).map(it => it.saved);
   ride.saved = base + '.fit';
@@ -127,9 +141,21 @@ async function presentAll(mine) {
     }
     note(ride, [], answer);
   }
+  // Copies that are damaged are put together, where none is whole.
+  for (let i = 0; i < rides.length; i++) for (let k = i + 1; k < rides.length; k++) {
+    const isThere = rides.some(it => it.heading === 'whole' && it.id && it.id === rides[i].id), own = isThere ? null : await together([rides[i], rides[k]]);
+    if (mine !== turn) return;
+    if (!own) continue;
+    rides.splice(k--, 1);
+    rides[i] = own;
+    note(own, [], await ask(own, []));
+    if (mine !== turn) return;
+  }
   // Others of the same choice may tell how to read those that do not.
   for (const ride of rides.filter(it => it.isUnknown)) {
-    for (const other of rides.filter(it => it.heading === 'whole').slice(0, HELPERS)) {
+    const helpers = rides.filter(it => it !== ride && !it.isUnknown && it.facts.added.records > 0);
+    const isWhole = it => it.heading === 'whole' ? 1 : 0;
+    for (const other of helpers.sort((a, b) => isWhole(b) - isWhole(a)).slice(0, HELPERS)) {
       const like = await readLike(ride, other);
       if (mine !== turn) return;
       if (!like) continue;
@@ -139,6 +165,17 @@ async function presentAll(mine) {
       note(like, [], answer);
       break;
     }
+  }
+  const copies = copiesAmong(rides);
+  rides = rides.filter(it => !copies.some(([copy]) => copy === it));
+  const noteOf = (key, [own, other, ms]) => [key, { name: own.folder + own.name, other: other.folder + other.name, length: { ms } }];
+  const poorer = copies.filter(([,, ms]) => !ms);
+  if (poorer.length > 1) shownNotes.push(['sameFiles', { count: poorer.length }]);
+  else shownNotes.push(...poorer.map(it => noteOf('sameRide', it)));
+  for (const it of copies) if (it[2]) shownNotes.push(noteOf('sameMore', it));
+  if (rides.length === 1) {
+    rides[0].said = shownNotes;
+    return choose(rides[0]);
   }
   await list();
   if (mine !== turn) return;
@@ -173,9 +210,11 @@ let labelAll = null;
 
 function showList() {
   byId('saveAll').textContent = text(...labelAll);
-  const of = isOne => rides.filter(isOne).length, whole = of(it => it.heading === 'whole'), other = of(it => it.heading === 'otherKind');
+  const of = isOne => rides.filter(isOne).length, off = of(it => it.isOff), whole = of(it => it.heading === 'whole') - off;
+  const other = of(it => it.heading === 'otherKind');
   const made = of(it => it.file && !['whole', 'otherKind'].includes(it.heading)), all = rides.length - other, left = others + other;
-  const counts = [['rescuedCount', made], ['wholeCount', whole], ['restCount', all - whole - made]].filter(([, count]) => count);
+  const each = [['rescuedCount', made], ['wholeCount', whole], ['offCount', off], ['restCount', all - whole - off - made]];
+  const counts = each.filter(([, count]) => count);
   byId('listHeading').textContent = text('listTitle', { all, counts: counts.map(([key, count]) => [key, { count }]) });
   const notes = left ? [...shownNotes, [left === 1 ? 'otherFile' : 'otherFiles', { count: left }]] : shownNotes;
   byId('listNote').textContent = notes.map(it => text(...it)).join(' ');
@@ -185,21 +224,20 @@ function showList() {
 }
 
 function rowOf(ride) {
-  const { heading, words, facts } = ride, numbers = numbersOf(facts);
+  const { heading, words, facts, isOff } = ride, numbers = numbersOf(facts);
   const show = make('button', { type: 'button', 'aria-label': text('show') + ' ' + ride.folder + ride.name }, text('show'));
   show.addEventListener('click', () => choose(ride));
   return make('tr', {}, make('th', { scope: 'row' }, ride.folder + ride.name),
     ...['start', 'duration', 'distance'].map(it => make('td', {}, numbers[it] ? numbers[it].shown : '')),
-    make('td', {}, headingText(heading, words)), make('td', {}, show));
+    make('td', {}, headingText(isOff ? 'wholeOff' : heading, words)), make('td', {}, show));
 }
 
 // ---- one ride
 
 function present(answer, how = [], isAgain = false) {
   const { reasons, details, next, offers, file, ride } = answer, sentence = ([key, values]) => text(key, values), facts = factsIn(answer);
-  const clock = clockOf(answer, facts), isOff = clock && clock.isWrong && !answer.seconds, isWhole = answer.heading === 'whole';
+  const clock = clockOf(answer, facts), isOff = clock && clock.isWrong && !answer.seconds, isWrong = isWholeOff(answer, clock);
   shownAnswer = { answer, how };
-  const isWrong = isWhole && (isOff || ride && ride.back !== null);
   byId('heading').textContent = headingText(isWrong ? 'wholeOff' : answer.heading, wordsOf(ride));
   const which = rides.length > 1 && current ? make('p', {}, make('strong', {}, current.folder + current.name)) : '';
   const untimed = ride && ride.isUntimed ? [['untimed']] : [];
@@ -216,11 +254,12 @@ function present(answer, how = [], isAgain = false) {
   if (isOff) numbers.start.shown = text('unknown');
   byId('numbers').replaceChildren(...Object.entries(numbers).map(pair));
   showClock(answer, clock, how);
-  byId('where').textContent = file && answer.isWhole ? text('where') : '';
+  // No website takes a file without its date.
+  byId('where').textContent = file && answer.isWhole && !isOff ? text('where') : '';
   byId('where').hidden = !byId('where').textContent;
   offer(answer, current);
   byId('result').hidden = false;
-  draw(ride, speedOf(facts.of));
+  draw(ride, facts.isPaused ? null : speedOf(facts.of));
   if (!isAgain) byId('result').focus();
 }
 

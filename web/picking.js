@@ -53,15 +53,17 @@ export async function headOf(file) {
 /** @type {(head: string) => string} */
 export const kindOf = head => head.slice(8) === '.FIT' ? 'fit' : /^FRJ/.test(head) ? 'journal' : '';
 
-// The rides of some files, in the order of folders and names, each with `data` and `journal` or one of them, and how many files are none.
-/** @param {Chosen[]} files @returns {Promise<{ rides: Files[], others: number }>} */
+// The rides of some files, in the order of folders and names, each with `data` and `journal` or one of them; the other files, and how many
+// are none.
+/** @param {Chosen[]} files @returns {Promise<{ rides: Files[], rest: Files[], others: number }>} */
 export async function ridesOf(files) {
   const found = [], rides = [];
   const { compare } = new Intl.Collator(LOCALE, { numeric: true });
   files.sort((a, b) => compare(a.folder, b.folder) || compare(a.file.name, b.file.name));
   for (const it of files) found.push(await known(it));
   const ours = found.filter(it => it.kind !== 'other'), folders = new Set(ours.map(it => it.folder));
-  if (!ours.length) return { rides: found.slice(0, 1).map(it => rideFrom(it)), others: 0 };
+  const rest = found.filter(it => it.kind === 'other').map(it => rideFrom(it));
+  if (!ours.length) return { rides: rest.slice(0, 1), rest: rest.slice(1), others: 0 };
   for (const folder of folders) {
     const of = kind => ours.filter(it => it.folder === folder && it.kind === kind), fits = of('fit'), journals = of('journal');
     const taken = new Map();
@@ -74,7 +76,7 @@ export async function ridesOf(files) {
     if (left.length === 1 && match) taken.set(match, left.pop());
     rides.push(...fits.map(it => rideFrom(it, taken.get(it))), ...left.map(it => rideFrom(null, it)));
   }
-  return { rides, others: found.length - ours.length };
+  return { rides, rest, others: rest.length };
 }
 
 function rideFrom(data, journal) {
@@ -91,6 +93,10 @@ export function ridesIn({ name, folder }, parts) {
     return { data, name: `${name} (${text('ofMany', { n: i + 1, all: parts.length })})`, folder, isPart: true };
   });
 }
+
+// Files of which the archive was cut off that they were in.
+/** @type {WeakSet<Blob>} */
+export const torn = new WeakSet();
 
 // What is kept of each file that was read. Nothing is read twice, so that a card can be pulled out.
 const kept = new WeakMap();
@@ -145,12 +151,51 @@ async function isSame(a, b) {
   return own.byteLength === a.size && new Uint8Array(own).every((n, i) => n === bytes[i]);
 }
 
+// So many files may be pieces of others, of so many bytes at most.
+const MOST_PIECES = 8, LARGEST = 2 ** 23;
+
+// Puts together what a tool or a copy cut one file into: the rides, and those of other files that are no piece. `find` tells which are.
+/** @param {Files[]} rides @param {Files[]} rest @param {(cuts: Uint8Array[]) => Promise<number[][]>} find */
+export async function wholesOf(rides, rest, find) {
+  const mayBe = [];
+  for (const it of rides.filter(own => own.data)) if (isShort(it)) mayBe.push({ it, isHead: kindOf(await headOf(it.data)) === 'fit' });
+  const heads = mayBe.filter(({ isHead }) => isHead).map(({ it }) => it), folders = heads.map(it => it.folder);
+  const beside = rest.filter(it => folders.includes(it.folder) && isShort(it));
+  const tails = [...mayBe.filter(({ isHead, it }) => !isHead && !it.journal).map(({ it }) => it), ...beside];
+  if (!heads.length || !tails.length || tails.length > MOST_PIECES) return { rides, rest };
+  const all = [...heads, ...tails];
+  const bytes = await Promise.all(all.map(async it => new Uint8Array(await (await keptOf(it.data)).blob.arrayBuffer())));
+  const rows = (await find(bytes)).map(row => row.map(k => all[k])), used = rows.flat();
+  const wholes = new Map(rows.map(row => [row[0], row])), isFree = it => !used.includes(it);
+  const bytesIn = row => row.map(it => bytes[all.indexOf(it)]), madeOf = row => wholeOf(row[0], row.map(it => it.name), bytesIn(row));
+  return { rides: rides.filter(it => isFree(it) || wholes.has(it)).map(it => wholes.has(it) ? madeOf(wholes.get(it)) : it), rest: rest.filter(isFree) };
+}
+
+const isShort = it => it.data.size <= LARGEST && !it.isArchive && !it.isPart && !it.like;
+
+/** @type {(ride: Files, pieces: string[], bytes: Uint8Array[], isCopies?: boolean) => Files} */
+function wholeOf(ride, pieces, bytes, isCopies = false) {
+  const data = new Blob(bytes);
+  kept.set(data, { blob: data });
+  return { ...ride, data, pieces, isCopies, name: pieces.join(' + '), how: null };
+}
+
+// Puts together what two damaged copies of one file have, by length or by their file_id; null if they are none. `find` tells what that is.
+/** @param {Files[]} copies @param {(copies: Uint8Array[]) => Promise<{ made: Uint8Array | null }>} find @returns {Promise<Files | null>} */
+export async function oneOf([ride, other], find) {
+  const isAlike = ride.data && other.data && (ride.data.size === other.data.size || ride.id && ride.id === other.id);
+  if (!isAlike || ![ride, other].every(it => isShort(it) && !it.journal && !['whole', 'otherKind'].includes(it.heading))) return null;
+  const bytes = await Promise.all([ride, other].map(async it => new Uint8Array(await (await keptOf(it.data)).blob.arrayBuffer())));
+  const { made } = await find(bytes), namesOf = it => it.isCopies ? it.pieces : [it.folder + it.name];
+  return made ? wholeOf(ride, [...namesOf(ride), ...namesOf(other)], [made], true) : null;
+}
+
 // What the worker is given of a ride.
 /** @param {Files} ride @returns {Promise<Given>} */
-export async function bytesOf({ data, journal, like, likeName, name, isPart, halves }) {
+export async function bytesOf({ data, journal, like, likeName, name, isPart, halves, pieces, isCopies }) {
   if (halves) return { name, parts: await Promise.all(halves.map(async it => new Uint8Array(await (it.file || (await keptOf(it.data)).blob).arrayBuffer()))) };
   const read = async file => new Uint8Array(await (await keptOf(file)).blob.arrayBuffer());
   const [bytes, other, lent] = await Promise.all([data, journal, like].map(it => it && read(it)));
   const unread = data && kept.get(data).unread;
-  return { name, isPart, journalName: journal && journal.name, data: bytes, unread, journal: other, like: lent, likeName };
+  return { name, isPart, journalName: journal && journal.name, data: bytes, unread, journal: other, like: lent, likeName, pieces, isCopies, isTorn: torn.has(data) };
 }

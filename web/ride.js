@@ -3,37 +3,61 @@
 import { columnsOf } from './drawing.js';
 import { extremesOf, plausible, sampleAt } from './ranges.js';
 
-export const TIME = 253, SPORT = 12, SESSION = 18, LAP = 19, RECORD = 20, EVENT = 21, SEMICIRCLE = 180 / 2 ** 31;
+// Several sports in one activity, and a triathlon, which is a sub_sport.
+export const MULTISPORT = 18, TRIATHLON = 78;
+// The sport of the time between two others, the field of a lap that states one, and that of its number, with other bits above it.
+const TRANSITION = 3, SPORT_OF = 25, INDEX = 254, NUMBER = 4095;
+export const TIME = 253, WAY = 5, SPORT = 12, SESSION = 18, LAP = 19, RECORD = 20, EVENT = 21, SEMICIRCLE = 180 / 2 ** 31;
 // A sample with most of the fields has some more bytes. No distance leaps so far, in centimetres. A value counts for so many seconds at most.
 // The sport of a ride stands in so many bytes. Times in the short form begin anew after so many milliseconds.
 export const SAMPLE = 20, FAR = 1e7, LONGEST = 60, FRONT = 4096, ROUND = 32000, MINUTE = 60000;
+// What is left out may have so many milliseconds more than fit there.
+const MUCH = 10 * MINUTE;
 // A part of a few seconds is not named, and some samples are no fault.
 export const LITTLE = 10, SOME = 8;
+// Centimetres in a degree, and how many km/h a centimetre in a second is.
+const DEGREE = 1.112e7, SPEED = 0.036;
 
 // A field of each series, and one that counts where the first is missing; and those that state its maximum and its average in a session. In
 // its unit a value is raw * scale + offset. No device measures what is below `from` or above `to`: a heart has a beat, and 0 is the altitude
-// of bytes that were never written. `least` is the smallest range of its picture. What leaps by more than `leap` from both neighbours is a fault.
+// of bytes that were never written. `least` is the smallest range of its picture. What leaps by more than `leap` from both neighbours, `within` so
+// many seconds, is a fault.
 const SERIES = [
   { name: 'speed', fields: [73, 6], maximum: [125, 15], mean: [124, 14], scale: 0.0036, offset: 0, from: 0, to: 1300, least: 1 },
-  { name: 'heart', fields: [3], maximum: [17], mean: [16], scale: 1, offset: 0, from: 1, to: 254, least: 5 },
+  { name: 'heart', fields: [3], maximum: [17], mean: [16], scale: 1, offset: 0, from: 1, to: 254, least: 5, leap: 50, within: LITTLE },
   { name: 'height', fields: [78, 2], maximum: [128, 50], mean: [126, 49], scale: 0.2, offset: -500, from: -499, to: 30000, least: 5, leap: 100 },
   { name: 'power', fields: [7], maximum: [21], mean: [20], scale: 1, offset: 0, from: 0, to: 5000, least: 20 },
   { name: 'cadence', fields: [4], maximum: [19], mean: [18], scale: 1, offset: 0, from: 0, to: 254, least: 5 },
   { name: 'warmth', fields: [13], maximum: [58], mean: [57], scale: 1, offset: 0, from: -90, to: 100, least: 2 },
 ];
-const POSITION = [0, 1].map(it => ({ fields: [it], scale: SEMICIRCLE }));
+export const PLACED = [TIME, ...[0, 1].map(it => ({ fields: [it], scale: SEMICIRCLE })), WAY], TIMED = [TIME, 0, 1];
+
+// When a file was made, by which device and maker.
+const MADE = [4, 3, 2, 1];
 
 // What is read of a ride: of a finished file all, of the two files of a recording what is there up to its last commit. That has no session.
 /** @param {import('./fitrec.mjs').Fitrec} fitrec @param {(Blob | ArrayBuffer)[]} files @param {number | null} [records] */
 export async function tablesOf(fitrec, files, records) {
   const [data, journal] = await Promise.all(files.map(async it => new Uint8Array(it instanceof Blob ? await it.arrayBuffer() : it)));
-  const samples = [RECORD, [TIME, ...POSITION, 5, ...SERIES], records || Math.ceil(data.length / SAMPLE)];
+  const samples = [RECORD, [...PLACED, ...SERIES], records || Math.ceil(data.length / SAMPLE)];
   const stated = ['maximum', 'mean'].flatMap(key => SERIES.map(it => ({ ...it, fields: it[key] })));
-  const ofSession = [2, 7, 8, 9, 5, 22, 26, 3, ...stated], asked = [samples, [EVENT, [TIME, 0, 1]], [LAP, [TIME, 2, 7, 8, 9], 1024]];
+  const ofSession = [2, 7, 8, 9, 5, 22, 26, 3, TIME, ...stated], ofLap = [LAP, [TIME, 2, 7, 8, 9, SPORT_OF, INDEX], 1024];
+  const asked = [samples, [EVENT, TIMED], ofLap, [0, MADE]];
   const tables = await (journal ? fitrec.committed(data, journal, asked) : fitrec.tables(data, [...asked, [SESSION, ofSession]]));
   if (journal) tables.push(ofSession.map(() => new Float64Array(0)));
-  return { tables, sport: tables[3][4].find(n => n > 0) ?? await sportOf(fitrec, data) };
+  // A leg whose session is lost may have laps.
+  const [, , [end, begin, , , , laps], , sessions] = tables, isOutside = outsideOf(sessions);
+  const sports = [...new Set([...sessions[4], ...laps.filter((_, k) => isOutside((begin[k] + end[k]) / 2))])];
+  const own = sports.filter(n => n > 0 && n !== TRANSITION), isTriathlon = [1, 2, 5].every(it => own.includes(it));
+  // One that no message states is another one beside those that are.
+  const isOne = own.length < 2 && !sports.includes(TRANSITION) && !(own.length && sports.includes(0));
+  return { tables, sport: isOne ? own[0] ?? await sportOf(fitrec, data) : isTriathlon ? TRIATHLON : MULTISPORT };
 }
+
+// Whether a time is in none of the sessions, as far as they state theirs.
+/** @type {(session: Float64Array[]) => (t: number) => boolean} */
+const outsideOf = ([start, elapsed, , , , , , , end]) => t => t === t && start.length > 0
+  && !start.some((from, k) => !(t < from) && !(t > end[k] && t > from + elapsed[k] / 1000));
 
 // The sport that the first bytes of a file state, if they do.
 async function sportOf(fitrec, data) {
@@ -47,9 +71,10 @@ async function sportOf(fitrec, data) {
 
 // The ride of its tables; a summary that is ours says nothing of the device. Times are seconds since 1989-12-31 00:00 UTC, positions are
 // degrees, distances centimetres. Samples none of which has a time are in their order, as if one came each second.
-/** @param {{ tables: Float64Array[][], sport?: number }} read @param {{ gaps: Gap[], isOurs?: boolean }} about @returns {Drawn} */
-export function rideOf({ tables: [records, events, found, session], sport }, { gaps, isOurs }) {
-  const [start, elapsed, timer, length, , climbed, lapCount, begun, ...stated] = session, isDevices = gaps.length > 0 && !isOurs;
+// The device has written the first `ownLaps` of the laps, or all.
+/** @param {{ tables: Float64Array[][], sport?: number }} read @param {{ gaps: Gap[], isOurs?: boolean, ownLaps?: number }} about @returns {Drawn} */
+export function rideOf({ tables: [records, events, found, made, session], sport }, { gaps, isOurs, ownLaps }) {
+  const [start, elapsed, timer, length, , climbed, lapCount, begun, , ...stated] = session, isDevices = gaps.length > 0 && !isOurs;
   const isUntimed = records[0].length > 0 && records[0].every(n => n !== n);
   if (isUntimed) records[0].forEach((_, i) => { records[0][i] = i; });
   const back = isUntimed ? null : backIn(records[0]);
@@ -66,21 +91,31 @@ export function rideOf({ tables: [records, events, found, session], sport }, { g
   const means = stated.slice(SERIES.length), isOne = start.length === 1 && !isOurs;
   const series = SERIES.map((kind, k) => seriesOf(values[k], kind, stated[k], isOne ? means[k][0] : NaN, shared)).filter(it => it);
   const ride = { time, lat, long, distance, series, pauses, breaks: lat.includes(NaN) ? breaksOf(time, lat, resumed) : breaks };
-  const sums = sumsOf({ start, ...(isOurs ? {} : { elapsed, timer, distance: length, ascent: climbed }) }), totals = totalsOf(ride, usual);
+  const sums = sumsOf({ start, elapsed, timer, ...(isOurs ? {} : { distance: length, ascent: climbed }) }), totals = totalsOf(ride, usual);
   if (isUntimed) Object.assign(totals.added, { start: null, elapsed: null, timer: null });
-  const missing = withPauses(spans, isDevices && start.length === 1 ? elapsed[0] - timer[0] : NaN, pauses, totals.added);
+  const own = found.map(it => it.subarray(0, ownLaps)), counts = isOurs || !start.length ? own.slice(1, 4) : [start, elapsed, timer];
+  const missing = withPauses(spans, hiddenIn(counts, spans, pauses), totals.added);
+  for (const it of missing) if (it && it.paused) for (const all of isOurs ? [sums, totals.added] : [totals.added]) all.timer -= it.paused;
   // What the device counted, and what no sample has.
   const lost = { laps: 0, kinds: [] };
-  if (isDevices) lost.laps = Math.max(0, lapCount.reduce((sum, n) => sum + n, 0) - found[0].length) || 0;
+  const isCut = gaps.length > 0 && !isUntimed, begin = spans.some(it => it && it.from === null) ? 0 : time[0];
+  lost.laps = Math.max(isDevices && lapCount.reduce((sum, n) => sum + n, 0) - found[0].length || 0, isCut ? lostIn(own, begin) : 0);
   if (isDevices && time.length) {
     if (begun[0] === begun[0] && lat.every(n => n !== n)) lost.kinds.push('track');
     for (const [k, { name }] of SERIES.entries()) {
       if (!series.some(it => it.name === name) && (means[k][0] > 0 || stated[k][0] > 0)) lost.kinds.push(name);
     }
   }
-  const silent = back !== null || gaps.some(it => !it.isLast) ? [] : silentIn(time, clock, breaks, events);
-  return { ...ride, laps: lapColumns(laps, series), ...totals, sums, sport, isUntimed, missing, silent, lost, back };
+  const silent = back !== null || gaps.some(it => !it.isLast) ? [] : silentIn({ ...ride, speed: values[0] }, clock, breaks, events);
+  const uncounted = isOurs || isUntimed ? [] : uncountedIn(time, distance, outsideOf(session));
+  const id = made[0][0] > 0 ? made.map(it => it[0]).join() : '';
+  // The device counted what came before the first sample, and the totals that are added do not.
+  const isLong = isOurs && ownLaps > 0 && isCut && laps[0].start < time[0] - LITTLE && spans.some(it => it && it.from === null);
+  return { ...ride, laps: { ...lapColumns(laps, series), isLong }, ...totals, sums, sport, isUntimed, missing, silent, uncounted, lost, back, id };
 }
+
+// Nobody pauses for so many seconds.
+const DAY = 86400;
 
 // From when to when samples are missing between those that stand before a place and after it, and how far that is. A pause that is kept is
 // not missing. After a time in the short form all may be too early: then the bytes that are left out tell about how long it was, by
@@ -90,7 +125,7 @@ export function rideOf({ tables: [records, events, found, session], sport }, { g
  * @param {Gap} gap @param {Float64Array[]} columns @param {number[][]} pauses @param {number} pace @param {number} start
  * @returns {Missing | null}
  */
-function spanOf({ before, samples, isLast, isShort, unread }, columns, pauses, pace, start) {
+function spanOf({ before, samples, isLast, isShort, isGuessed, unread, part }, columns, pauses, pace, start) {
   if (before === undefined) return null;
   const [time, , , distance] = columns, count = i => columns.filter(it => it[i] === it[i]).length, there = distance[before - 1];
   // Of a sample that the hole touches only the time may be left.
@@ -102,24 +137,43 @@ function spanOf({ before, samples, isLast, isShort, unread }, columns, pauses, p
   };
   let from = known(time, edge, -1), to = isLast ? null : known(time, before, 1);
   const way = known(distance, before, 1) - known(distance, edge, -1), cm = way > 0 && way < FAR ? way : null;
-  for (const [a, b] of pauses) if (from !== null && a >= from && b <= to) a - from > to - b ? to = a : from = b;
+  for (const [a, b] of pauses) if (from !== null && a >= from && b <= to && b - a < DAY) a - from > to - b ? to = a : from = b;
   if (from === null && start <= to) from = start;
   const ms = from === null || to === null ? null : 1000 * Math.max(0, to - from), about = 1000 * samples * pace;
   if (from === null && about <= 1000 * LITTLE) return null;
-  const isAbout = isShort && ms !== null && about > ms + ROUND / 2;
-  return { from, to, ms: isAbout ? Math.max(1, Math.round(about / MINUTE)) * MINUTE : ms, cm, isAbout, about, unread };
+  const isAbout = isShort && ms !== null && (isGuessed ? about > ROUND / 2 : about > ms + ROUND / 2);
+  // What is left out there is more than fits between these times: it may be another part of the ride.
+  if (!isAbout && before && ms !== null && about > ms + MUCH) return { from, to: null, ms: null, cm: null, isAbout, about, unread: part };
+  return { from, to, ms: isAbout ? minutesIn(about) : ms, cm, isAbout, about, unread };
 }
 
-// The same where pauses may be lost with the samples: the device counted so many milliseconds of pauses, or none is known. Then there was none
-// where the way is as long as on the whole ride.
-/** @param {(Missing | null)[]} spans @param {number} counted @param {number[][]} pauses @param {Partial<Summary>} whole */
-function withPauses(spans, counted, pauses, { distance, timer }) {
-  const hidden = counted - 1000 * pauses.reduce((sum, [from, to]) => sum + to - from, 0);
+/** @type {(ms: number) => number} */
+export const minutesIn = ms => Math.max(1, Math.round(ms / MINUTE)) * MINUTE;
+
+// How many milliseconds of pauses the device counted beyond those that are known, in sessions or laps that have all that is missing.
+function hiddenIn(/** @type {Float64Array[]} */ [start, elapsed, timer], spans, pauses) {
+  const sum = (values, of) => values.reduce((all, it, k) => all + of(it, k), 0);
+  const shared = (from, to) => sum(start, (a, k) => Math.max(0, Math.min(a + elapsed[k] / 1000, to) - Math.max(a, from)));
+  const isAll = spans.every(it => !it || it.to === null || shared(it.from, it.to) >= it.to - it.from - LITTLE);
+  return isAll ? sum(elapsed, (ms, k) => ms - timer[k]) - 1000 * sum(pauses, ([from, to]) => shared(from, to)) : NaN;
+}
+
+// How many laps are missing after a time, by the numbers of the others, where none of those has that time.
+function lostIn(/** @type {Float64Array[]} */ [end, start, , , , , index], begin) {
+  const number = k => k < 0 ? -1 : index[k] & NUMBER, since = k => k ? end[k - 1] : begin;
+  return index.reduce((sum, n, k) => sum + (n >= 0 && start[k] > since(k) + LITTLE ? Math.max(0, number(k) - number(k - 1) - 1) : 0), 0);
+}
+
+// The same where pauses may be lost with the samples: the device counted so many milliseconds of those that are `hidden`, or none is known. Then
+// there was none where the way is as long as on the whole ride.
+/** @param {(Missing | null)[]} spans @param {number} hidden @param {Partial<Summary>} whole */
+function withPauses(spans, hidden, { distance, timer }) {
   const isSlow = it => hidden === hidden || !(it.cm / it.ms > distance / timer / 2);
   const long = hidden <= 1000 * LITTLE ? [] : spans.filter(it => it && !it.isAbout && it.ms > 2 * it.about + MINUTE && isSlow(it));
   // The pause is where it is the only one that can have it, or where so much is missing beside the samples.
   const own = long.length === 1 && hidden <= long[0].ms ? long[0] : long.find(it => Math.abs(it.ms - it.about - hidden) <= MINUTE / 2);
-  return spans.map(it => it === own && it ? { ...it, ms: it.ms - hidden } : !own && long.includes(it) ? { ...it, isPaused: true } : it);
+  if (!own) return spans.map(it => long.includes(it) ? { ...it, isPaused: true } : it);
+  return spans.map(it => it === own ? { ...it, ms: it.ms - hidden, paused: hidden } : it);
 }
 
 // After which time the next ones go back and stay so, by some samples before and after that; null if they do not.
@@ -139,7 +193,7 @@ function inTime(columns) {
     last = time[i];
   }
   const range = isInOrder ? { low: time[0], high: time[time.length - 1] } : extremesOf(time);
-  const { from, to, faults } = plausible(time, range, 86400);
+  const { from, to, faults } = plausible(time, range, DAY);
   if (isInOrder && !faults) return columns;
   const order = [...time.keys()].filter(i => time[i] >= from && time[i] <= to).sort((a, b) => time[a] - time[b] || a - b);
   return columns.map(it => Float64Array.from(order, i => it[i]));
@@ -148,7 +202,8 @@ function inTime(columns) {
 // A series with its parts and what they amount to, without values that cannot be; null if it has no other. Its greatest value is at least the
 // maximum that a session states. The parts end where a column of the picture or a lap does, and where the line is interrupted.
 function seriesOf(values, kind, stated, mean, { time, clock, weights: usual, ends, breaks, resumed }) {
-  const { leap = Infinity } = kind, isFar = (i, k) => Math.abs(values[i] - values[k]) > leap;
+  const { leap = Infinity, within = Infinity } = kind;
+  const isFar = (i, k) => Math.abs(values[i] - values[k]) > leap && !(Math.abs(time[i] - time[k]) > within);
   for (let i = 1; i < values.length; i++) if (isFar(i, i - 1) && isFar(i, i + 1)) values[i] = Infinity;
   const { faults, count } = leaveOut(values, kind), isFull = count === time.length, own = isFull ? breaks : breaksOf(time, values, resumed);
   leaveOut(stated, kind);
@@ -302,11 +357,42 @@ function breaksOf(time, values, resumed) {
 }
 
 // From when to when, and for how many seconds, no sample came though the timer ran, for a minute and more: there a line is interrupted. A last
-// stop that no start follows is a pause too.
-function silentIn(time, clock, breaks, /** @type {Float64Array[]} */ [at, event, kind]) {
-  const stop = at[event.findLastIndex((n, k) => n === 0 && kind[k] > 0)];
-  return breaks.map(i => [time[i - 1], time[i], clock[i] - clock[i - 1]])
+// stop that no start follows is a pause too. And by how many seconds a clock was set ahead there, if it was.
+function silentIn(ride, clock, breaks, /** @type {Float64Array[]} */ [at, event, kind]) {
+  const { time } = ride, stop = at[event.findLastIndex((n, k) => n === 0 && kind[k] > 0)];
+  return breaks.map(i => [time[i - 1], time[i], clock[i] - clock[i - 1], isMoving(ride, i) ? clock[i] - 2 * clock[i - 1] + clock[i - 2] : 0])
     .filter(([from, to, seconds]) => seconds >= LONGEST && seconds === to - from && !(stop >= from && stop < to));
+}
+
+// Whether a ride goes on at speed from one sample to the next, with the way and the place of a few seconds.
+function isMoving({ time, lat, long, distance, speed }, i) {
+  if (i < SOME || i + SOME > time.length) return false;
+  const step = (values, k) => values[k] - values[k - 1], speeds = [i - 1, i + 1].map(k => step(distance, k) / step(time, k));
+  const seconds = time.reduce((sum, t, k) => sum + (k ? Math.min(step(time, k), LITTLE) : 0), 0), { low, high } = extremesOf(distance);
+  const least = (high - low) / seconds / 2, most = LITTLE * Math.max(...speeds), isNear = values => !(Math.abs(step(values, i)) > most / DEGREE);
+  const isFast = speeds.every(n => n > least) && [i - 1, i].every(k => !(speed[k] / SPEED < least));
+  return isFast && most < FAR && step(distance, i) > 0 && step(distance, i) < most && isNear(lat) && isNear(long);
+}
+
+// After which times a clock was set ahead in a ride.
+/** @param {import('./fitrec.mjs').Fitrec} fitrec @param {Uint8Array} file @returns {Promise<number[]>} */
+export async function aheadIn(fitrec, file) {
+  const [records, events] = await fitrec.tables(file, [[RECORD, [...PLACED, SERIES[0]], Math.ceil(file.length / SAMPLE)], [EVENT, TIMED]]);
+  const [time, lat, long, distance, speed] = records, pauses = pausesOf(...events);
+  const breaks = breaksOf(time, time, pauses.map(([, to]) => sampleAt(time, to)));
+  return silentIn({ time, lat, long, distance, speed }, clockOf(time, pauses), breaks, events).filter(it => it[3]).map(([from]) => from);
+}
+
+// What the sessions leave out after the first sample: after which time, and how much. Between two of them a minute is no leg.
+function uncountedIn(time, distance, isOutside) {
+  const found = [], { length } = time;
+  for (let i = 0, first = 0; i <= length; i++) {
+    if (i < length && isOutside(time[i])) continue;
+    const before = Math.max(0, first - 1), ms = 1000 * (time[i - 1] - time[before]), cm = distance[i - 1] - distance[first];
+    if (first && i > first && ms > 1000 * (i < length ? LONGEST : LITTLE)) found.push({ from: { time: time[before] }, length: { ms, cm } });
+    first = i + 1;
+  }
+  return found;
 }
 
 // What the samples add up to: for files without a summary, and what no summary has.
@@ -346,20 +432,25 @@ function ascentOf({ values }) {
 }
 
 // The laps that the file has, each with its samples from `first` up to `last`; after them the rest of a ride that was cut off.
-function lapsOf(/** @type {Float64Array[]} */ [end, start, elapsed, timer, length], { time, distance, pauses }) {
+function lapsOf(/** @type {Float64Array[]} */ [end, start, elapsed, timer, length, , index], { time, distance, pauses }) {
   const laps = [];
+  let number = 0;
   const of = (from, to, given) => {
     const first = sampleAt(time, from), last = Math.min(sampleAt(time, to + (given.isLast ? 1 : 0)), time.length);
     const paused = () => pauses.reduce((sum, [a, b]) => sum + Math.max(0, Math.min(b, to) - Math.max(a, from)), 0);
     const wayOf = ({ low, high }) => high - low;
     return { start: from, first, last, timer: given.timer >= 0 ? given.timer : (to - from - paused()) * 1000,
-      distance: given.length >= 0 ? given.length : wayOf(extremesOf(distance.subarray(first, last))), isOpen: Boolean(given.isOpen) };
+      number, distance: given.length >= 0 ? given.length : wayOf(extremesOf(distance.subarray(first, last))), isOpen: Boolean(given.isOpen) };
   };
   for (let i = 0; i < end.length; i++) {
     const from = start[i] === start[i] ? start[i] : i ? end[i - 1] : time[0], to = end[i] === end[i] ? end[i] : from + elapsed[i] / 1000;
-    if (from >= 0 && to >= from) laps.push({ to, ...of(from, to, { timer: timer[i], length: length[i], isLast: i === end.length - 1 }) });
+    if (!(from >= 0 && to >= from)) continue;
+    // One before it may be lost.
+    number = Math.max(number, index[i] & NUMBER) + 1;
+    laps.push({ to, ...of(from, to, { timer: timer[i], length: length[i], isLast: i === end.length - 1 }) });
   }
   const ended = laps.length ? laps[laps.length - 1].to : time[0], finished = time[time.length - 1];
+  number++;
   if (finished > ended) laps.push({ to: finished, ...of(ended, finished, { isLast: true, isOpen: true }) });
   return laps;
 }
@@ -373,6 +464,6 @@ function lapColumns(laps, series) {
   const average = wholes => wholes && Float64Array.from(wholes.map(it => it.sum / it.seconds));
   const greatest = wholes => wholes && Float64Array.from(wholes.map(it => it.seconds ? it.high : NaN));
   const columns = { heartAverage: average(heart), heartGreatest: greatest(heart), powerAverage: average(power) };
-  for (const key of ['start', 'timer', 'distance']) columns[key] = column(it => it[key]);
+  for (const key of ['number', 'start', 'timer', 'distance']) columns[key] = column(it => it[key]);
   return { count: laps.length, ...columns, isOpen: laps.length > 0 && laps[laps.length - 1].isOpen };
 }

@@ -6,7 +6,7 @@ import { inflated } from './inflating.js';
 const add = (to, name, attributes) => to.append(Object.assign(document.createElement(name), attributes));
 
 async function start() {
-  const { shown, style, script, worker } = JSON.parse(new TextDecoder().decode(await inflated('@INFLATED@')));
+  const [style, shown, script, worker] = new TextDecoder().decode(await inflated('@INFLATED@')).split('\0');
   window.fitrec = { worker, module: inflated('@MODULE@'), isServed };
   add(document.head, 'style', { textContent: style });
   document.querySelector('main').innerHTML = shown;

@@ -2,14 +2,14 @@
 // browser inflates.
 
 import { filesIn } from './finding.js';
-import { headOf, kindOf } from './picking.js';
+import { headOf, kindOf, torn } from './picking.js';
 
 // So many bytes come out of all that is chosen at once, at most, and archives lie in one another so deep.
 const MOST_UNPACKED = 2 ** 29, DEEPEST = 3;
 
 // Files with their folders, without archives and images that have a FIT file or a journal in them. An archive that has none stays, and is
 // refused by its name, and so is what is too long to be one file. `isWanted` says whether they are still asked for. Beside them are the names
-// of ZIP files that were cut off.
+// of archives that were cut off.
 /** @param {Chosen[]} files @param {() => boolean} isWanted @returns {Promise<{ files: Chosen[], cut: string[] }>} */
 export async function unpacked(files, isWanted) {
   const left = { room: MOST_UNPACKED, isWanted, cut: [] }, found = [];
@@ -21,21 +21,37 @@ async function contentOf({ file, folder }, left, depth) {
   const head = await headOf(file), isZip = /^PK/.test(head), isArchive = isZip || /^\x1F\x8B/.test(head), found = [];
   // In a folder or an archive nothing is taken for an image: films and maps in it may be long.
   if (isArchive ? !depth : folder || kindOf(head)) return [{ file, folder }];
-  const whole = async () => ({ name: file.name.replace(/\.gz$/i, ''), parts: await inflatedFrom(file, 'gzip', left) });
+  const whole = async () => ({ name: file.name.replace(/\.gz$/i, ''), ...await inflatedOf(file, left) });
   if (!isArchive) for (const it of await filesIn(file, left.isWanted)) found.push({ file: it, folder: `${file.name}/`, isPart: true });
-  else for (const { name, parts } of isZip ? await entriesOf(file, left) : [await whole()]) {
+  else for (const { name, parts, isTorn } of isZip ? await entriesOf(file, left) : [await whole()]) {
     const own = name.split('/').pop(), path = isZip ? `${file.name}/${name.slice(0, name.length - own.length)}` : '';
-    found.push(...await contentOf({ file: new File(parts, own), folder: folder + path }, left, depth - 1));
+    const made = new File(parts, own);
+    if (isTorn) torn.add(made);
+    if (isTorn && !isZip) left.cut.push(file.name);
+    found.push(...await contentOf({ file: made, folder: folder + path }, left, depth - 1));
   }
   return found.length ? found : [{ file, folder, isArchive: isArchive || file.size > MOST_UNPACKED }];
 }
 
-// What inflates of a file, up to the first fault in it.
-async function inflatedFrom(blob, format, left) {
-  const reader = blob.stream().pipeThrough(new DecompressionStream(format)).getReader(), parts = [];
+// What a GZ file has, and whether that was cut off: it ends with the length of it.
+async function inflatedOf(file, left) {
+  const { parts, isRead } = await inflatedFrom(file, 'gzip', left), stated = new DataView(await file.slice(-4).arrayBuffer());
+  return { parts, isTorn: isRead && stated.getUint32(0, true) !== parts.reduce((sum, it) => sum + it.length, 0) };
+}
+
+// So many bytes at a time are inflated where there is a fault, since all of that time are lost. What is checked stands in the last ones.
+const BIT = 64, CHECKED = 8;
+
+// What inflates of a file, up to the first fault in it; and whether it is read to its end, and goes on there.
+async function inflatedFrom(blob, format, left, bits = null) {
+  const from = bits ? inBits(blob, bits) : blob.stream(), reader = from.pipeThrough(new DecompressionStream(format)).getReader(), parts = [];
   for (;;) {
-    const { done, value } = await reader.read().catch(() => ({ done: true }));
-    if (done) return parts;
+    const { done, value, fault } = await reader.read().catch(() => ({ done: true, fault: true }));
+    if (fault && !bits) {
+      left.room += parts.reduce((sum, it) => sum + it.length, 0);
+      return inflatedFrom(blob, format, left, { at: 0 });
+    }
+    if (done) return { parts, isRead: fault && bits.at === blob.size };
     left.room -= value.length;
     if (left.room < 0) {
       reader.cancel().catch(() => {});
@@ -43,6 +59,15 @@ async function inflatedFrom(blob, format, left) {
     }
     parts.push(value);
   }
+}
+
+// `bits.at` is how far it was read.
+function inBits(blob, bits) {
+  return new ReadableStream({ async pull(to) {
+    const { at } = bits, end = Math.min(at + BIT, at < blob.size - CHECKED ? blob.size - CHECKED : blob.size);
+    if (end <= at) return to.close();
+    to.enqueue(new Uint8Array(await blob.slice(at, bits.at = end).arrayBuffer()));
+  } });
 }
 
 // The directory of a ZIP file ends with so many bytes at most.
@@ -56,13 +81,15 @@ async function entriesOf(file, left) {
   const viewOf = async (from, size) => new DataView(await file.slice(from, from + size).arrayBuffer()), found = [];
   const listed = await listedIn(file, viewOf);
   if (!listed) left.cut.push(file.name);
-  for (const { start, size } of listed || entriesIn(await viewOf(0, file.size))) {
+  const entries = listed || entriesIn(await viewOf(0, file.size));
+  for (const { start, size } of entries) {
     const entry = await viewOf(start, 30);
     if (entry.byteLength < 30) continue;
     const nameEnd = start + 30 + entry.getUint16(26, true), content = nameEnd + entry.getUint16(28, true);
     const name = new TextDecoder().decode(await file.slice(start + 30, nameEnd).arrayBuffer()), packed = file.slice(content, content + size);
     if (!/\.(fit|frj|gz|zip)$/i.test(name)) continue;
-    found.push({ name, parts: entry.getUint16(8, true) ? await inflatedFrom(packed, 'deflate-raw', left) : [packed] });
+    const isTorn = !listed && start === entries[entries.length - 1].start;
+    found.push({ name, ...entry.getUint16(8, true) ? await inflatedFrom(packed, 'deflate-raw', left) : { parts: [packed] }, isTorn });
   }
   return found;
 }

@@ -5,12 +5,12 @@ import { curveOf, trackOf } from './drawing.js';
 import { open } from './fitrec.mjs';
 import { beginningsIn, frontOf } from './fronts.js';
 import { rideOf, tablesOf } from './ride.js';
-import { answerTo } from './saving.js';
+import { answerTo, piecesOf, togetherOf } from './saving.js';
 
 let ready;
 const opened = new Promise(done => { ready = done; });
 
-onmessage = async ({ data: { module, number, card, at, goesOn, most, front, ride, how, files, records, gaps = [], isOurs } }) => {
+onmessage = async ({ data: { module, number, card, at, goesOn, most, front, cuts, copies, ride, how, files, records, gaps = [], isOurs, ownLaps } }) => {
   if (module) return ready(open(module));
   const report = step => postMessage({ number, step });
   try {
@@ -20,6 +20,8 @@ onmessage = async ({ data: { module, number, card, at, goesOn, most, front, ride
       return postMessage({ number, answer: { ...found, begun: beginningsIn(bytes, at) } });
     }
     if (front) return postMessage({ number, answer: await frontOf(fitrec, new Uint8Array(front)) });
+    if (cuts) return postMessage({ number, answer: await piecesOf(fitrec, cuts) });
+    if (copies) return postMessage({ number, answer: { made: await togetherOf(fitrec, copies) } });
     if (ride) {
       const answer = await answerTo(fitrec, ride, how), { parts = [] } = answer;
       for (const it of ['file', 'shown']) if (answer[it]) answer[it] = new Blob([answer[it]], { type: 'application/octet-stream' });
@@ -27,7 +29,7 @@ onmessage = async ({ data: { module, number, card, at, goesOn, most, front, ride
     }
     const tables = await tablesOf(fitrec, files, records);
     report(2);
-    const answer = drawn(tables, { gaps, isOurs }, () => report(3));
+    const answer = drawn(tables, { gaps, isOurs, ownLaps }, () => report(3));
     const lent = [answer.time, answer.lat, answer.long, answer.distance, ...answer.series.map(it => it.values)];
     postMessage({ number, answer }, { transfer: lent.map(it => it.buffer) });
   } catch (error) {

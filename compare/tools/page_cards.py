@@ -95,9 +95,10 @@ def of_cards(fitrec, folder, browser):
 
     # The ride that a device was writing when it died.
     died = folder / "c" / NAMES[0]
-    run(fitrec, "salvage", "--finish", "--plain", died, folder / "died.fit")
     content, places = image(random.Random(5), [rides[1], died.read_bytes()])
     after = made("died.img", content)
+    # What follows it in the image may cut its last sample.
+    run(fitrec, "salvage", "--skip", "--finish", "--plain", made("rest.img", content[places[1]:]), folder / "died.fit")
 
     def of_the_last(shown, made):
         names = [("died.img/%d.fit" % at, state) for at, state in zip(places, (FINE, "Your ride is rescued"))]

@@ -90,7 +90,7 @@ def of_clocks(fitrec, folder, browser):
             yield "the answer is drawn", differs((then["heading"], then["numbers"]["Start"], then["focus"]), (after, SHOWN, "result"))
             yield "it can be given again", differs(parts(made[4], "asked", "value", "back"), [QUESTION, MORNING, True])
             yield "it says so", unless("Every time in the file is moved" in then["reason"], then["reason"], "it says so")
-            yield "where no sample came, by right times", differs(["No samples" in it["reason"] for it in (first, then)], [heading != DATED, True])
+            yield "where no sample came, by right times", differs(["no samples" in it["reason"] for it in (first, then)], [heading != DATED, True])
             yield "no other number changes", differs(without_start(then["numbers"]), without_start(first["numbers"]))
             yield "no curve changes", differs(parts(then, "captions", "pictures"), parts(first, "captions", "pictures"))
             yield "the file is what the program makes", differs(bytes_of(pathlib.Path(made[6])), content)
@@ -129,11 +129,13 @@ def of_clocks(fitrec, folder, browser):
 WAY, YEARS = (5, UINT32), 730 * DAY
 
 
-def ridden(count, clock, has_way=True):
-    """A ride of so many samples, a second apart, whose device shows by a clock which time it is at each of them. It has two laps."""
+def ridden(count, clock, has_way=True, counted=lambda last, first: last - first):
+    """A ride of so many samples, a second apart, whose device shows by a clock which time it is at each of them. It has two laps, whose seconds
+    are counted from one sample to another."""
     way = lambda at: {WAY: 700 * at, LAT: 560000000 + 500 * at, LONG: 100000000 + 500 * at} if has_way else {}
     sample = lambda at: message(20, {TIME: clock(at), HEART: 120 + at % 9} | way(at))
-    lap = lambda kind, first, last: message(kind, {TIME: clock(last), BEGIN: clock(first), ELAPSED: 1000 * (last - first), TIMER: 1000 * (last - first)})
+    lap = lambda kind, first, last: message(kind, {TIME: clock(last), BEGIN: clock(first), ELAPSED: 1000 * counted(last, first),
+                                                   TIMER: 1000 * counted(last, first)})
     body = [sample(at) + (lap(19, 0, 600) if at == 600 else b"") for at in range(count)]
     return framed(message(0, {(0, ENUM): 4, (4, UINT32): clock(0)}) + b"".join(body) + lap(19, 600, count - 1) + lap(18, 0, count - 1)
                   + message(34, {TIME: clock(count - 1), (1, UINT16): 1}))
@@ -206,6 +208,83 @@ def of_set_clocks(fitrec, folder, browser):
     yield from browser.outcomes()
 
 
+def of_clocks_ahead(fitrec, folder, browser):
+    """A clock that was set ahead in full motion is told, and one click moves the times of one part to those of the other. Where the ride stood, or
+    went on in the meantime, no sample came."""
+    set_at, by = 700, 7200
+    clock = lambda at: START + at + by * (at >= set_at)
+    says = "At %s, in full motion, the clock leaps ahead by about 2 hr: it may have been set." % clock_of(START + set_at - 1)
+    wrong = "The clock of the device was wrong for %s from %s on. Those times are moved to fit the others."
+    correct, other, back = "Correct the times", "Move the other times instead", "Go back"
+
+    def judged(heading, is_whole):
+        def judge(shown, made):
+            first, then, last, again = shown[0], shown[1], shown[3], shown[6]
+            yield "what is said first", differs((first["heading"], says in first["reason"], "no samples" in first["reason"]), (heading, True, False))
+            yield "its offer", differs([it for it in first["offers"] if "journal" not in it], [correct])
+            end = "0:19:%02d" % (59 if is_whole else int(then["numbers"]["Duration"][-2:]))
+            for name, it, start, content, offers, of in (("corrected", then, START + by, made[2], [other, back], (set_at, START + by)),
+                                                         ("the other part", last, START, made[4], [back], (1200 - set_at, START + set_at))):
+                yield name + ": its offers", differs(it["offers"], offers)
+                if is_whole:
+                    yield name + ": what it says", unless(wrong % (length_of(of[0]), clock_of(of[1])) in it["reason"], it["reason"], of)
+                yield name + ": its numbers", differs(parts(it["numbers"], "Duration", "Average speed"), [end, "25.2 km/h"])
+                kept = bytes_of(pathlib.Path(content))
+                yield name + ": its samples", differs([it["timestamp"] for it in rows(kept)], [start + at for at in range(len(rows(kept)))])
+                laps = [(it["start_time"], it["timestamp"], it["total_elapsed_time"], it["total_timer_time"]) for it in rows(kept, 19)]
+                last_at = start + len(rows(kept)) - 1
+                two = [(start, start + 600, 600_000, 600_000), (start + 600, last_at, 1000 * (last_at - start - 600), 1000 * (last_at - start - 600))]
+                yield name + ": its laps", differs(laps, two if len(laps) > 1 else [(start, last_at, 1000 * (last_at - start), 1000 * (last_at - start))])
+                of_all = [(it["start_time"], it["total_elapsed_time"], it["total_timer_time"]) for it in rows(kept, 18)]
+                yield name + ": its totals", differs(of_all, [(start, 1000 * (last_at - start), 1000 * (last_at - start))])
+                (folder / "kept.fit").write_bytes(kept)
+                yield name + ": it is an activity", differs(run(fitrec, "check", folder / "kept.fit")[0], 0)
+            yield "the way back", differs(parts(again, "heading", "reason", "numbers", "offers"), parts(first, "heading", "reason", "numbers", "offers"))
+        return judge
+
+    whole, by_clock = ridden(1200, clock), ridden(1200, clock, counted=lambda last, first: clock(last) - clock(first))
+    lines = ["start %d 7 cycling" % START, *("sample %d dist=%d hr=%d" % (clock(at), 700 * at, 120 + at % 9) for at in range(1200)), "commit"]
+    cases = {"seconds that the device counts": ({"ride.fit": whole}, FINE, True), "seconds by its clock": ({"ride.fit": by_clock}, FINE, True),
+             "cut off": ({"ride.fit": whole[:-100]}, "Your activity is rescued", False),
+             "a wrong checksum": ({"ride.fit": by_clock[:-1] + bytes([by_clock[-1] ^ 1])}, "Your activity is rescued", True),
+             "a recording": ({it.name: it.read_bytes() for it in both(recorded(fitrec, folder / "own", lines))}, RESCUED, True)}
+    steps = [{"click": "#offers button"}, SAVE, {"click": "#offers button"}, SAVE, {"click": "#offers button"}, {"click": "#offers button:last-child"}]
+    for (name, (files, *of)), (width, window) in itertools.product(cases.items(), WIDTHS.items()):
+        here = folder / ("%s-%s" % (name.replace(" ", "-"), width))
+        here.mkdir()
+        given = [(here / file, (here / file).write_bytes(content))[0] for file, content in files.items()]
+        browser.visit("%s, at %s" % (name, width), [{"files": given}, *steps], judged(*of), **window)
+
+    # What stood, was stopped, or went on: no sample came, and nothing is offered.
+    def rest(way, more=lambda at: {}, between=b""):
+        samples = [message(20, {TIME: clock(at), WAY: way(at), HEART: 120 + at % 9} | more(at)) for at in range(1200)]
+        closing = [message(kind, {TIME: clock(1199), BEGIN: clock(0), ELAPSED: 1000 * (clock(1199) - START), TIMER: 1000 * (clock(1199) - START)})
+                   for kind in (19, 18)]
+        return framed(message(0, {(0, ENUM): 4, (4, UINT32): START}) + b"".join([*samples[:set_at], between, *samples[set_at:], *closing])
+                      + message(34, {TIME: clock(1199), (1, UINT16): 1}))
+
+    moving, event = lambda at: 700 * at, lambda at, kind: message(21, {TIME: at, (0, ENUM): 0, (1, ENUM): kind})
+    still = lambda at: 700 * min(at, 690) + 700 * max(0, at - 710)
+    stays = {"it stood": (rest(still), True), "it slowed down": (rest(lambda at: 700 * at - 600 * (at >= set_at - 1)), True),
+             "its way went on": (rest(lambda at: 700 * (clock(at) - START)), True),
+             "it was elsewhere": (rest(moving, lambda at: {LAT: 560000000 + 500 * at + 900000 * (at >= set_at), LONG: 100000000}), True),
+             "its speed was none": (rest(moving, lambda at: {(6, UINT16): 7000 * (abs(at - set_at) > 2)}), True),
+             "its timer was stopped": (rest(moving, between=event(clock(set_at - 1), 4) + event(clock(set_at), 0)), False),
+             "nothing tells its way": (ridden(1200, clock, False), True)}
+
+    def of_rest(is_told):
+        def judge(shown, made):
+            reason = shown[0]["reason"]
+            yield "what it says", differs(("no samples" in reason, "may have been set" in reason, shown[0]["offers"]), (is_told, False, []))
+        return judge
+
+    for name, (content, is_told) in stays.items():
+        file = folder / (name.replace(" ", "-") + ".fit")
+        file.write_bytes(content)
+        browser.visit(name, [{"files": [file]}], of_rest(is_told))
+    yield from browser.outcomes()
+
+
 def of_other_clocks(fitrec, folder, browser):
     """Where the times can be right the question is in a fold; keys, languages and several rides; and what cannot be moved."""
     own, more = recorded(fitrec, folder / "own", tour(900)), recorded(fitrec, folder / "more", [
@@ -264,7 +343,9 @@ def of_other_clocks(fitrec, folder, browser):
 
     def of_cut(shown, made):
         first = shown[0]
-        yield "its totals at once", differs((first["heading"], "have been added" in first["reason"], first["where"] > ""), (MOSTLY, True, True))
+        # No website takes it before it has its date.
+        yield "its totals at once", differs((first["heading"], "have been added" in first["reason"], first["where"]), (MOSTLY, True, ""))
+        yield "where it is taken then", unless("Strava" in shown[2]["where"], shown[2]["where"], "where FIT files are taken")
         yield "its totals", differs((shown[2]["heading"], "have been added" in shown[2]["reason"]), (MOSTLY, True))
         yield "the file", differs(bytes_of(pathlib.Path(made[3])), whole)
 

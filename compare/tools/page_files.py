@@ -1,6 +1,7 @@
 """The page in a browser: each kind of file that is chosen or dropped, and what it offers."""
 
 import pathlib
+import random
 import re
 import shutil
 import zipfile
@@ -8,7 +9,7 @@ import zipfile
 from tools.checks import differs, unless
 from tools.fit_files import framed
 from tools.page_values import ENUM, UINT32, message
-from tools.pages import RIDE, START, both, copy, recorded, rounded, rows, tour
+from tools.pages import RIDE, START, both, by_device, copy, recorded, rounded, rows, tour
 from tools.program import NAMES, bytes_of, run
 from tools.rides import uncommitted
 from tools.visits import COMPLETED, FINE, MOSTLY, NOTHING, PARTLY, RESCUED, WINDOWS
@@ -48,9 +49,7 @@ def inputs(fitrec, folder):
            saved, the_end)
     yield ("a recording with a changed byte", both(changed), MOSTLY, "The end of the recording is damaged", "with %d bytes" % left_out, saved,
            instead)
-    # The layout of its samples is lost.
-    bytes_there[bytes_there.index(b"\x40\0\0\x14\0")] ^= 0x40
-    all_over = [*made("activity.fit", bytes(bytes_there)), changed / NAMES[1]]
+    all_over = [*made("activity.fit", bytes_there[:14] + random.Random(1).randbytes(len(bytes_there) - 14)), changed / NAMES[1]]
     yield "a recording changed all over", all_over, NOTHING, "Nothing in the file can be read", "another checksum", None, []
     yield "a tail that cannot be read", both(more), RESCUED, "could not be read to its end", "from byte %s on" % f"{end:,}", saved, [], end
     front = made("front.fit", (more / NAMES[0]).read_bytes()[:4096])[0]
@@ -145,9 +144,12 @@ def of_choosing(fitrec, folder, browser):
     # A card that is pulled out once its files were chosen: what was read is saved, shown and finished all the same.
     for window in WINDOWS:
         card = folder / ("pulled, " + window)
+        card.mkdir()
         shutil.copytree(torn, card / "a")
-        shutil.copytree(torn, card / "b")
-        (card / "cut.fit").write_bytes(alone)
+        for name, serial in (("b", 8), ("c", 9)):
+            recorded(fitrec, card / name, by_device(serial, RIDE)).with_suffix(".script").unlink()
+        shutil.move(card / "c" / NAMES[0], card / "cut.fit")
+        shutil.rmtree(card / "c")
         gone, bare = {"removed": [card]}, {"click": "#rarely button"}
         unfinished = by("unfinished.fit", "salvage", "--plain", ride)
         browser.visit("a card that is pulled out, %s" % window,
@@ -174,8 +176,15 @@ def of_choosing(fitrec, folder, browser):
     # Its own beginning once more, of which nothing is added.
     again, other = made("again.fit", whole + whole[14:2000]), "What follows after its end is of another activity or cannot be read"
     browser.visit("bytes after the end that add nothing", [{"files": again}, {"download": "#save"}], last(RESCUED, front, other, offers=[]))
-    browser.visit("bytes after the end, read", [{"files": longer}, one, {"download": "#save"}],
-                  last(MOSTLY, rest, "on may be of another activity", offers=[back]))
+
+    def of_longer(shown, made):
+        it = shown[-1]
+        # What follows hides the activity message, and gets totals of its own.
+        yield "its heading", differs((it["heading"], "on may be of another activity" in it["reason"]), (MOSTLY, True))
+        yield "its samples", differs(rows(bytes_of(pathlib.Path(made[-1]))), rows(rest))
+        yield "offers", differs(it["offers"][-1], back)
+
+    browser.visit("bytes after the end, read", [{"files": longer}, one, {"download": "#save"}], of_longer)
     browser.visit("bytes after the end, read and left out", [{"files": longer}, one, one, {"download": "#save"}],
                   last(RESCUED, front, offers=[follows]))
     more = recorded(fitrec, folder / "more", [*RIDE, *NOT_COMMITTED])
@@ -214,13 +223,13 @@ def of_lists(fitrec, folder, browser):
     rides = folder / "rides"
     rides.mkdir()
     by = lambda name, *words: (run(fitrec, *words, folder / name), (folder / name).read_bytes())[1]
-    torn = recorded(fitrec, folder / "torn", RIDE)
-    shutil.copytree(torn, rides / "b")
+    a, torn, d, other = (recorded(fitrec, folder / name, by_device(serial, RIDE)) for serial, name in enumerate(("a", "torn", "d", "other"), 6))
+    shutil.copytree(other, rides / "b")
     (rides / "c").mkdir()
     shutil.copy(torn / NAMES[0], rides / "c")
-    saved, bare = by("saved.fit", "save", torn), by("bare.fit", "salvage", "--plain", torn / NAMES[0])
+    saved, saved_other, bare = by("saved.fit", "save", torn), by("other.fit", "save", other), by("bare.fit", "salvage", "--plain", a / NAMES[0])
     (rides / "a.fit").write_bytes(bare)
-    (rides / "d.fit").write_bytes(saved)
+    (rides / "d.fit").write_bytes(by("d.fit", "save", d))
     finished = by("finished.fit", "salvage", "--finish", "--plain", rides / "a.fit")
     alone = by("alone.fit", "salvage", "--finish", "--plain", torn / NAMES[0])
     names, states = ["rides/a.fit", "rides/d.fit", "rides/b/activity.fit", "rides/c/activity.fit"], [RESCUED, FINE, RESCUED, RESCUED]
@@ -242,10 +251,10 @@ def of_lists(fitrec, folder, browser):
         start, take = {"files": [rides], "drop": True}, {"download": "#saveAll"}
         browser.visit("one of four without laps and totals, %s" % window,
                       [start, show(1), {"click": "#rarely button"}, take, show(3), show(1)],
-                      judged({name % "": bare, name % "-2": saved, name % "-3": alone}), **WINDOWS[window])
+                      judged({name % "": bare, name % "-2": saved_other, name % "-3": alone}), **WINDOWS[window])
         browser.visit("a journal for one of four, %s" % window,
                       [start, show(4), {"files": [torn / NAMES[1]]}, take, show(3), show(4)],
-                      judged({name % "": finished, name % "-2": saved, name % "-3": saved}), **WINDOWS[window])
+                      judged({name % "": finished, name % "-2": saved_other, name % "-3": saved}), **WINDOWS[window])
 
     # What is no activity does not count as one, whether it is a FIT file or not.
     others = shutil.copytree(rides, folder / "others")

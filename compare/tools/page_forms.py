@@ -1,4 +1,5 @@
-"""The page in a browser: archives that are chosen, and the other forms in which a ride is given."""
+"""The page in a browser: archives that are chosen, and the other forms in which a ride is given. Each function `of_..` is a group of visits,
+which GROUPS of compare/page.py names."""
 
 import csv
 import gzip
@@ -9,7 +10,7 @@ import zipfile
 import zlib
 
 from tools.checks import differs, unless
-from tools.pages import RIDE, both, recorded, rows
+from tools.pages import RIDE, both, by_device, recorded, rows
 from tools.program import bytes_of, run
 from tools.visits import FINE, MOSTLY, NOTHING, RESCUED, WIDTHS
 
@@ -53,6 +54,10 @@ def of_archives(fitrec, folder, browser):
     front = zlib.decompressobj(31).decompress(packed[:-1500])
     made("front.fit", front)
     run(fitrec, "salvage", "--finish", "--plain", folder / "front.fit", folder / "kept.fit")
+    # A recording of which the archive was cut off, and not by the device.
+    own = zipped("own.zip", {"activity.fit": (torn / "activity.fit").read_bytes()}, zipfile.ZIP_STORED).read_bytes()[:-2500]
+    made("own-front.fit", own[own.index(b".FIT") - 8:])
+    run(fitrec, "salvage", "--finish", "--plain", folder / "own-front.fit", folder / "own-kept.fit")
     with zipfile.ZipFile(stream := Stream(), "w", zipfile.ZIP_DEFLATED) as them:
         for entry, content in inner.items():
             them.writestr(entry, content)
@@ -63,6 +68,8 @@ def of_archives(fitrec, folder, browser):
         ("a file in another of another", zipped("deep.zip", {"activities/1.fit.gz": packed, "photo.jpg": b"photo"}), FINE, "complete", None),
         ("a deflated file", made("ride.fit.gz", packed), FINE, "complete", None),
         ("a deflated file that was cut off", made("cut.fit.gz", packed[:-1500]), MOSTLY, "The file was cut off", bytes_of(folder / "kept.fit")),
+        ("a recording in one that was cut off", made("own-cut.zip", own), MOSTLY, "The file was cut off", bytes_of(folder / "own-kept.fit")),
+        ("a deflated file whose own check is wrong", made("wrong.fit.gz", packed[:-8] + bytes(4) + packed[-4:]), FINE, "complete", None),
         ("nothing that is a ride", zipped("notes.zip", {"notes.txt": "notes"}), NOTHING, "notes.zip has no FIT file in it", None),
         ("no directory", made("torn.zip", (folder / "both.zip").read_bytes()[:-60]), RESCUED, "confirmed", saved),
         ("no directory and no sizes", made("streamed.zip", stream.content[:stream.content.index(b"PK\1\2")]), RESCUED, "confirmed", saved),
@@ -97,13 +104,15 @@ def of_archives(fitrec, folder, browser):
     (folder / "again").mkdir()
     again = folder / "again/ride.fit"
     again.write_bytes(saved)
-    several = zipped("several.zip", {"1.fit": saved, "2.fit": front})
+    run(fitrec, "save", recorded(fitrec, folder / "other", by_device(8, RIDE)), folder / "other.fit")
+    several = zipped("several.zip", {"1.fit": saved, "2.fit": (folder / "other.fit").read_bytes()})
     cut = made("cut.zip", several.read_bytes()[:-100])
     for name, files, words in (
             ("an archive that was cut off", [folder / "torn.zip"], ["torn.zip" + ends]), ("a whole archive", [folder / "both.zip"], []),
+            ("a deflated file that was cut off", [folder / "cut.fit.gz"], ["cut.fit.gz" + ends]), ("a wrong check", [folder / "wrong.fit.gz"], []),
             ("an archive of several that was cut off", [cut], ["cut.zip" + ends]), ("a whole archive of several", [several], []),
             ("a file and the same once more", [folder / "ride.fit", zipped("one.zip", {"copy.fit": saved})], ["copy.fit is the same as ", "ride.fit"]),
-            ("three that are the same", [folder / "ride.fit", zipped("two.zip", {"1.fit": saved, "2.fit": saved})], ["2 files are copies of others."])):
+            ("three that are the same", [folder / "ride.fit", zipped("two.zip", {"1.fit": saved, "2.fit": saved})], ["2 files are copies of others, and are left out."])):
         browser.visit(name, [{"files": files}], noted(*words))
 
     # So much comes out of a small file that no browser has room for it.

@@ -62,7 +62,7 @@ def of_halves(fitrec, folder, browser):
         folder / "run.fit")
     far = ["start %d 7 cycling" % (START + 3600), *("sample %d dist=%d" % (START + 3600 + at, 9_000_000 + 500 * at) for at in range(300))]
     run(fitrec, "save", recorded(fitrec, folder / "far", far), folder / "far.fit")
-    others = {"a distance that does not begin anew": [names[0], folder / "far.fit"], "one twice": [whole[0], names[0]], "one that overlaps": [names[0], later("early.fit", names[1], -5)],
+    others = {"a distance that does not begin anew": [names[0], folder / "far.fit"], "one that overlaps": [names[0], later("early.fit", names[1], -5)],
               "another sport": [names[0], folder / "run.fit"], "hours later": [names[0], later("late.fit", names[1], 5 * 3600)],
               "an hour after a whole one": [whole[0], later("hour.fit", whole[1], 3600)]}
 

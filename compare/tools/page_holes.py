@@ -16,8 +16,8 @@ from tools.visits import DATED, FINE, LAST_LAP, MOSTLY, NOTHING, PARTLY, RESCUED
 
 MAY_BE_WRONG = "Some values may be wrong."
 # How the page tells in each language where no samples are.
-SPOKEN = {"de": "Keine Messpunkte: %s bis %s, 8", "es": "Sin muestras: de %s a %s, 8", "fr": "Aucune mesure : de %s à %s, 8",
-          "it": "Nessun campione: dalle %s alle %s, 8"}
+SPOKEN = {"de": "Das Gerät schrieb keine Messpunkte: %s bis %s, 8", "es": "El dispositivo no escribió muestras: de %s a %s, 8",
+          "fr": "L’appareil n’a écrit aucune mesure : de %s à %s, 8", "it": "Il dispositivo non ha scritto campioni: dalle %s alle %s, 8"}
 
 
 def said_by(printed):
@@ -95,8 +95,9 @@ def of_holes(fitrec, folder, browser):
 
     hole, holes = made("hole.fit", with_holes(whole, [9000])), made("holes.fit", with_holes(whole, (3000, 9000, 10500, 12000, 13500, 16000, 19000, 20500)))
     large = made("large.fit", whole[:5000] + bytes(4000) + whole[9000:15000] + bytes(3000) + whole[18000:])
-    two = made("two.fit", with_holes(whole[:8000] + bytes(4000) + whole[12000:], [20000]))
-    bare = made("bare.fit", whole[14:])
+    two = made("two.fit", with_holes(whole[:9000] + bytes(4000) + whole[13000:], [16500, 20000]))
+    # A checksum that begins as no message does would hide the last one.
+    bare = made("bare.fit", whole[14:-2] + bytes(2))
     torn = made("torn.fit", bytes(14) + whole[14:-400])
     cut = made("cut.fit", by(made("short.fit", whole[:len(whole) // 2]))[0])
     parts = [(made("most.fit", whole[:len(whole) * 3 // 5]), MOSTLY), (made("part.fit", whole[:len(whole) * 2 // 5]), PARTLY)]
@@ -116,9 +117,11 @@ def of_holes(fitrec, folder, browser):
         visit("a large hole and a small one", two, MOSTLY, ["; a little in %d more places." % (printed.count("left out") - 1)], said_by(printed), kept)
         kept, printed = by(large, "--skip")
         lost = lambda a, b: b - a - sum(to - since for since, to in pauses_of(whole) if a <= since and to <= b)
-        gaps = ["%s to %s, %s (" % (clock_of(a), clock_of(b), length_of(lost(a, b))) for a, b in missing_by(whole, kept)]
+        missing = [(a, b, b - a - lost(a, b)) for a, b in missing_by(whole, kept)]
+        gaps = ["%s to %s, %s (" % (clock_of(a), clock_of(b), length_of(b - a)) for a, b, _ in missing]
+        gaps += ["km), of which %s were a pause" % length_of(paused) for *_, paused in missing if paused]
         visit("two large holes", large, MOSTLY, [*gaps, MAY_BE_WRONG], said_by(printed), kept)
-        yield "two large holes: what is missing", differs(len(gaps), 2)
+        yield "two large holes: what is missing", differs((len(missing), len(gaps)), (2, 3))
         kept, printed = by(bare, "--skip")
         visit("no header", bare, RESCUED, ["The file is damaged, but all of it could be read."], ["begins with no FIT header.", *said_by(printed)],
               kept)
@@ -135,7 +138,7 @@ def of_holes(fitrec, folder, browser):
     empty = by(recorded(fitrec, folder / "empty", [RIDE[0], "commit"]) / NAMES[0])[0]
     browser.visit("no sample for a summary", [{"files": [made("unheard.fit", empty)]}],
                   judged("Nothing was recorded", ["had not recorded anything yet"], ["No record has a time that fits"], None))
-    for name, content, says in (("picture", b"\x89PNG\r\n\x1a\n" + bytes(range(256)) * 40, ["is not a FIT file", "that the device itself wrote"]),
+    for name, content, says in (("picture", b"\x89PNG\r\n\x1a\n" + bytes(range(256)) * 40, ["is not a FIT file", "Copy it from the device once more. If it is the same there"]),
                                 ("noise", bytes(range(256)) * 40, ["does not begin as a FIT file", "it may tell how the rest is to be read"])):
         browser.visit("no ride at all, " + name, [{"files": [made(name + ".fit", content)]}], judged(NOTHING, says, [], None))
     yield from browser.outcomes()
@@ -266,11 +269,12 @@ def of_ends_and_pauses(fitrec, folder, browser):
         (here / file).write_bytes(content)
         browser.visit(name, [{"files": [here / file]}], judge)
 
-    # So many samples, of a second each, are lost, and the times after them begin anew within 32 seconds.
+    # So many samples are lost, and the times after them begin anew within 32 seconds: a later one that is stated in full tells them.
     holed = data[:9000] + bytes(4096) + data[13096:]
     lost, last = len(rows(whole)) - len(kept(holed)), rows(whole)[len(kept(data[:9000])) - 1]["timestamp"]
-    about = r"Missing: about %d min \(\d\.\d\d km\) from %s on\." % (round(lost / 60), clock_of(last))
-    visit("a hole before short times", holed, MOSTLY, about, "The times after that may be too early.", "choose it too")
+    following = rows(whole)[len(kept(data[:9000])) + lost]["timestamp"]
+    exact = r"Missing: %s to %s, %s \(\d\.\d\d km\)\." % (clock_of(last), clock_of(following), length_of(following - last))
+    visit("a hole before short times", holed, MOSTLY, exact, "choose it too", absent="too early")
     small = data[:9000] + bytes(100) + data[9100:]
     visit("a small hole before short times", small, RESCUED, "A few seconds of it are missing at most", absent="too early")
     # Zeros and FF up to the full length, also where they complete a sample.
@@ -286,7 +290,9 @@ def of_ends_and_pauses(fitrec, folder, browser):
     samples = lambda *of: b"".join(message(20, {TIME: START + at, HEART: 120}) for at in range(*of))
     event = lambda at, kind: message(21, {TIME: START + at, (0, ENUM): 0, (1, ENUM): kind})
     begin, stopped = message(0, {(0, ENUM): 4, (4, UINT32): START}), event(299, 4) + event(900, 0)
-    front, between, rest = begin + samples(300), bytes([15]) * 2000, samples(1000, 1400)
+    # The hole begins within a sample, of which the header and a part of the time are left.
+    cut = samples(1)[:-4] + bytes([15]) * 2000
+    front, between, rest = begin + samples(300), cut, samples(1000, 1400)
     visit("a pause before a hole", framed(front + stopped + between + rest), "Most of your activity is rescued",
           "Missing: %s to %s, 1 min 40 sec\\." % (clock_of(START + 900), clock_of(START + 1000)))
     visit("a pause after a hole", framed(begin + samples(200) + between + stopped + samples(900, 1400)), "Most of your activity is rescued",
@@ -329,7 +335,7 @@ def of_silences(fitrec, folder, browser):
     def says(*gaps, more=""):
         """What is said of gaps, each from one second of the ride to another."""
         named = ["%s to %s, %s" % (clock_of(START + a), clock_of(START + b), length_of(b - a)) for a, b in gaps]
-        return "No samples: %s. The device wrote none there." % "; ".join([*named, *[more] * bool(more)])
+        return "The device wrote no samples: %s." % "; ".join([*named, *[more] * bool(more)])
 
     smart = lambda begin, end: range(begin, end, 7)
     places = [(299, 390), (699, 830), (1099, 1180), (1599, 1730)]
@@ -352,7 +358,7 @@ def of_silences(fitrec, folder, browser):
         def judge(shown, made):
             reason = shown[0]["reason"]
             yield "what it says", unless(said is None or said in reason, reason, said)
-            yield "nothing else of it", differs(reason.count("No samples"), int(said is not None))
+            yield "nothing else of it", differs(reason.count("no samples"), int(said is not None))
         return judge
 
     for (name, (content, said)), (width, window) in itertools.product(cases.items(), WIDTHS.items()):
@@ -362,7 +368,7 @@ def of_silences(fitrec, folder, browser):
     # By days, where it is more than one.
     file = folder / "days.fit"
     file.write_bytes(whole(range(600), range(2 * 86400, 2 * 86400 + 600)))
-    days = "No samples: November 8, 2024 at 8:09 AM UTC to November 10, 2024 at 8:00 AM UTC, 47 hr 50 min. The device wrote none there."
+    days = "The device wrote no samples: November 8, 2024 at 8:09 AM UTC to November 10, 2024 at 8:00 AM UTC, 47 hr 50 min."
     for width, window in WIDTHS.items():
         browser.visit("two days, at %s" % width, [{"files": [file]}], judged(days), **window)
     # In each language.
@@ -389,7 +395,7 @@ def of_unread_ends(fitrec, folder, browser):
     layout = lambda *fields: b"\x40\0\0\x14\0" + bytes([len(fields)]) + b"".join(map(bytes, fields))
     time, heart, way, watts = (253, 4, 0x86), (3, 1, 2), (5, 4, 0x86), (7, 2, 0x84)
     first = lambda at: b"\0" + number(START + at) + bytes([120 + at % 9]) + number(700 * at)
-    then = lambda at: b"\0" + number(560000000 + 500 * at) + number(100000000 + 500 * at) + (150 + at % 100).to_bytes(2, "little") + first(at)[1:]
+    then = lambda at: b"\0" + number(560000000 + 500 * at) + number(100000000 + 500 * at) + (400 + at % 100).to_bytes(2, "little") + first(at)[1:]
     change = layout((0, 4, 0x85), (1, 4, 0x85), watts, time, heart, way)
     closing = lambda kind: message(kind, {TIME: START + 3600, BEGIN: START, ELAPSED: 3_600_000, TIMER: 3_600_000, LENGTH: 700 * 3600})
     end = closing(19) + closing(18) + message(34, {TIME: START + 3600, (1, UINT16): 1})
@@ -414,8 +420,9 @@ def of_unread_ends(fitrec, folder, browser):
     for name, count in (("half", 1800), ("late", 3000)):
         front = begin + layout(time, heart, way) + b"".join(map(first, range(count)))
         rest = b"".join(map(then, range(count, 3600)))
+        # The last sample before it is left out too, since a hole may begin in it.
         lost = lambda file, left: "Missing: what follows after %s and cannot be read (%d%% of the file)." % (
-            clock_of(START + count - 1), -(-100 * left // len(file)))
+            clock_of(START + count - 2), -(-100 * left // len(file)))
         hole, at = bytes([15]) * len(change), 14 + len(front)
         whole = framed(front + change + rest + end)
         damaged, left = whole[:at] + hole + whole[at + len(hole):], len(hole + rest)
@@ -467,7 +474,7 @@ def of_what_is_lost(fitrec, folder, browser):
         def judge(shown, made):
             for it, (heading, lead, more, absent, count) in zip([it for it in shown if it], wanted, strict=True):
                 said = it["reason"] + " " + it["next"]
-                yield "its heading", differs(it["heading"], heading)
+                yield "its heading", None if heading is ... else differs(it["heading"], heading)
                 yield "what is read first", unless(said.startswith(lead), said, lead)
                 yield "what else is said", differs([own for own in more if own not in said], [])
                 yield "what is not said", differs([own for own in absent if own in said], [])
@@ -496,13 +503,21 @@ def of_what_is_lost(fitrec, folder, browser):
           ("The times of your activity are corrected", says, [], ["It is complete and undamaged"], 1800))
     visit("a whole file of two rides", {"ride.fit": finished(samples(5000, 5800, back=90000))}, [one],
           (DATED, "After %s its times go back" % clock_of(START + 999), [], ["nothing needs"], 1800))
-    # A pause of two days is none of a clock.
-    visit("a long pause", {"ride.fit": finished(samples(1000, 1800, back=-2 * 86400))}, [one], (FINE, "It is complete", [], ["clock"], 1800))
+    # A clock that may have been set by two days is not moved unasked.
+    visit("two days later", {"ride.fit": finished(samples(1000, 1800, back=-2 * 86400))}, [one],
+          (FINE, "It is complete", ["leaps ahead by about 48 hr"], ["to fit the others"], 1800))
     older = begin + samples(1000) + samples(5000, 5800, back=90000)
     says = "What follows after %s has earlier times, and is left out" % clock_of(START + 999)
     visit("older samples after the end", {"ride.fit": opened(older)}, [one, "#offers button", "#offers button"],
-          (mostly, says, [], ["wrong for"], 1000), (partly, "This is the part that was left out.", ["Its distance is that of the part"], [], 800),
+          (mostly, says, [], ["wrong for"], 1000), (partly, "This is the part that was left out.", ["Its totals are those of the part"], [], 800),
           (mostly, says, [], [], 1000))
+
+    # Bytes of a ride of days later, which were there before.
+    later = begin + samples(1000) + bytes([15]) * 40 + samples(5000, 5800, back=-2 * 86400)
+    says = "What follows after %s begins days later, and is left out" % clock_of(START + 998)
+    visit("samples of days later after the end", {"ride.fit": opened(later)}, [one, "#offers button", "#offers button"],
+          (mostly, says, [], ["What comes from"], 999), (partly, "This is the part that was left out.", [], [], 800),
+          (mostly, says, [], [], 999))
 
     def of_part(shown, made):
         yield "its distance", differs([it["numbers"]["Distance"] for it in shown], ["6.99 km", "5.59 km"])
@@ -530,10 +545,9 @@ def of_what_is_lost(fitrec, folder, browser):
     visit("no beginning, and another file", {"ride.fit": front, "like.fit": files["like.fit"]}, [one, ("like.fit",)], lost, read)
     visit("no beginning, and a file that does not help", {"ride.fit": front, "other.fit": other}, [one, ("other.fit",)], lost,
           (FINE, "It is complete", ["other.fit did not help to read ride.fit."], [], 300))
-    card = {"activity.fit": bytes(4096) + (folder / "like-fit" / NAMES[0]).read_bytes()[4096:], "other.fit": (folder / "whole-fit" / NAMES[0]).read_bytes(),
+    card = {"activity.fit": bytes(4096) + (folder / "like-fit" / NAMES[0]).read_bytes()[4096:],
             "activity.frj": (folder / "like-fit" / NAMES[1]).read_bytes()}
-    visit("no beginning, with its journal", card, [("activity.fit", "activity.frj"), ("other.fit",)],
-          (NOTHING, "activity.fit does not begin as a FIT file", [asks], [], None), (mostly, "Missing: ", ["with the help of other.fit"], [], ...))
+    visit("no beginning, with its journal", card, [("activity.fit", "activity.frj")], (mostly, "Missing: what came before ", [], [asks], ...))
     visit("neither beginning nor end", {"ride.fit": front[:-4000], "like.fit": files["like.fit"]}, [one, ("like.fit",)],
           (NOTHING, "ride.fit does not begin as a FIT file, and nothing in it can be read.", [asks], [], None),
           (mostly, "Missing: what came before", ["with the help of like.fit"], [], len(rows((folder / "middle-kept.fit").read_bytes()))))
@@ -553,16 +567,23 @@ def of_what_is_lost(fitrec, folder, browser):
         return body + message(19, {(254, UINT16): 0, TIME: first + count, BEGIN: first, ELAPSED: 1000 * count, LENGTH: 700 * count}) \
             + message(18, {TIME: first + count, BEGIN: first, ELAPSED: 1000 * count, LENGTH: 700 * count}) + message(34, {TIME: first + count})
 
+    # From sample 27 on they are whole. The one before the stop, whose layout is sought anew, is left out.
     torn, like = framed(numbered(3, 4, START, 1800))[300:], framed(numbered(6, 3, START - 86400, 900))
     visit("no beginning, and other local numbers", {"ride.fit": torn, "like.fit": like}, [one, ("like.fit",)],
-          (TOTALS % "activity", "It has only totals", [asks], [], 0), (mostly, "Missing: ", ["with the help of like.fit"], [asks], 1771))
-    # Totals behind a hole that is larger than what is searched for more.
+          (TOTALS % "activity", "It has only totals", [asks], [], 0), (mostly, "Missing: ", ["with the help of like.fit"], [asks], 1772))
+    # It has layouts of which nothing is in what is left.
+    unused = under(7, 140, [253, 5, 6, 7, 8]) + b"\7" + b"".join(number(n) for n in (START - 86000, 1, 2, 3, 4))
+    more = framed(numbered(6, 3, START - 86400, 900) + unused)
+    visit("no beginning, and layouts that are not used", {"ride.fit": torn, "like.fit": more},
+          [one, ("like.fit",)], (TOTALS % "activity", "It has only totals", [asks], [], 0),
+          (mostly, "Missing: %s to %s, 27 sec (" % (clock_of(START), clock_of(START + 27)), ["with the help of like.fit"], ["after"], 1772))
+    # Totals behind a hole that is larger than what is searched for more. The last sample ends in a zero, and is left out with the zeros.
     hidden = wrong(framed(begin + samples(20) + bytes(70000) + lap(0, 0, 1800) + ending(1800)))
     visit("totals behind a large hole", {"ride.fit": hidden}, [one],
-          (partly, "Missing: what came after %s" % clock_of(START + 19), ["The file is damaged."], ["have been added"], 20))
+          (partly, "Missing: what came after %s" % clock_of(START + 18), ["The file is damaged."], ["have been added"], 19))
     # The layout of the samples is damaged: laps and totals are there.
     content = framed(begin + samples(1800) + lap(0, 0, 900) + lap(1, 900, 1800) + ending(1800))
-    for name, at, byte in (("its size", 7, 9), ("its fields", 5, 9), ("its kind", 3, 21)):
+    for name, at, byte in (("its size", 7, 9), ("its fields", 5, 9), ("its kind", 3, 23)):
         damaged = bytearray(content)
         damaged[content.index(layout) + at] = byte
         totals = TOTALS % "activity", "It has only totals", [], [], 0
@@ -579,6 +600,22 @@ def of_what_is_lost(fitrec, folder, browser):
         start, end = counted.index(laps[1]) - 40, counted.index(laps[many]) + 40
         hole = counted[:start] + bytes([15]) * (end - start) + counted[end:]
         visit("a hole with %d laps" % many, {"ride.fit": hole}, [one], (mostly if many > 1 else whole, "", [said], ["Nothing is left"], left_of(hole)))
+    # Where the session is lost too, the numbers of the other laps tell, also of a device that counts from 1.
+    def of_laps(first, since, to):
+        own = [lap(k + first, 300 * k, 300 * k + 300) for k in range(6)]
+        content = framed(begin + b"".join(samples(300 * k, 300 * k + 300) + it for k, it in enumerate(own)))
+        start, end = content.index(own[since]) - 40, content.index(own[to]) - 40 if to < 6 else len(content) - 40
+        return content[:start] + bytes([15]) * (end - start) + content[end:]
+
+    between = framed(begin + b"".join(samples(300 * k, 300 * k + 300) + lap(k + 1, 300 * k, 300 * k + 300) for k in range(6)))
+    at = between.index(number(START + 450)) - 1
+    for name, hole, more, absent in (("the first lap", of_laps(0, 0, 1), ["One lap is missing."], []),
+                                     ("three laps", of_laps(0, 1, 4), ["3 laps are missing."], []),
+                                     ("the last lap", of_laps(0, 5, 6), [], ["laps are missing", "lap is missing"]),
+                                     ("a lap of those from 1 on", of_laps(1, 2, 3), ["One lap is missing."], []),
+                                     ("no lap of those from 1 on", between[:at] + bytes([15]) * 900 + between[at + 900:], [],
+                                      ["laps are missing", "lap is missing"])):
+        visit("a hole with %s and no session" % name, {"ride.fit": hole}, [one], (..., "", more, absent, left_of(hole)))
     places = b"".join(message(20, {TIME: START + at, LAT: 500000000 + 50 * at, LONG: 100000000 + 50 * at}) for at in range(0, 60, 2))
     content = framed(begin + samples(200) + places + samples(200, 1800) + lap(0, 0, 1800) + ending(1800, fields={(3, LAT[1]): 500000000, MOST_HEART: 128}))
     at = content.index(places)
@@ -587,17 +624,17 @@ def of_what_is_lost(fitrec, folder, browser):
           (whole, "A few seconds of it are missing at most.", ["Nothing is left of: Track."], ["Heart"], left_of(hole)))
     # A pause of ten minutes in a hole, which the session counts, or nothing does. And a sample of which a hole leaves the time alone.
     closing = lap(0, 0, 3000, paused=600) + ending(3000, paused=600)
-    for name, end, says in (("that was counted", closing, "3 min 22 sec (1.41 km)."), ("that nothing counts", b"", "perhaps with a pause")):
+    for name, end, says in (("that was counted", closing, "13 min 23 sec (1.42 km), of which 10 min were a pause."), ("that nothing counts", b"", "perhaps with a pause")):
         content = framed(begin + samples(800) + samples(800, 2400, back=-600) + end)
         start, end = content.index(number(START + 700)) - 1, content.index(number(START + 1501)) - 1
         hole = content[:start] + bytes([15]) * (end - start) + content[end:]
-        lead = "Missing: %s to %s, %s" % (clock_of(START + 699), clock_of(START + 1501), says)
+        lead = "Missing: %s to %s, %s" % (clock_of(START + 698), clock_of(START + 1501), says)
         visit("a pause in a hole %s" % name, {"ride.fit": hole}, [one], (mostly, lead, [], [], left_of(hole)))
     # Bytes that are gone altogether tell nothing, but the way does.
     content = framed(begin + samples(1800))
     start, end = content.index(number(START + 700)) + 20, content.index(number(START + 900)) + 6
     gone = content[:start] + content[end:]
-    lead = "Missing: %s to %s, 3 min 20 sec (1.40 km)" % (clock_of(START + 701), clock_of(START + 901))
+    lead = "Missing: %s to %s, 3 min 21 sec (1.41 km)" % (clock_of(START + 700), clock_of(START + 901))
     visit("a part that is gone", {"ride.fit": gone}, [one], (mostly, lead, [], ["perhaps"], left_of(gone)))
     content = framed(begin + samples(1800) + ending(1800))
     at = content.index(number(START + 500)) + 4

@@ -120,6 +120,8 @@ def of_people(fitrec, folder, browser):
     sources = "".join((WEB / name).read_text() for name in os.listdir(WEB) if name.endswith((".js", ".html")) and name != "texts.js")
     words = set(re.findall(r"'(\w+)'|\"(\w+)\"|(\w+):", sources))
     known = {it for found in words for it in found} | {"fault" + it for it in FAULTS}
+    # A kind of file is named by the word of its number.
+    known |= {"kind" + it for it in re.findall(r"'(\w+)'", re.search(r"const KINDS = \{(.*?)\};", sources, re.S)[1])} | {"kindOther"}
     yield "no text is left over", differs([it for it in texts["en"] if it not in known and not it.startswith("offer_")], [])
     yield from browser.outcomes()
 

@@ -7,7 +7,7 @@ import shutil
 import zipfile
 
 from tools.checks import differs, unless
-from tools.pages import (RIDE, START, ascent_of, average_of, both, columns_of, drawn_of, facts_of, pauses_of, recorded, rounded, rows,
+from tools.pages import (RIDE, START, ascent_of, average_of, both, by_device, columns_of, drawn_of, facts_of, pauses_of, recorded, rounded, rows,
                          series_of, tour, weighted)
 from tools.program import bytes_of, run
 from tools.visits import FINE, RESCUED, WINDOWS
@@ -165,11 +165,12 @@ def of_looking(fitrec, folder, browser):
     # Several rides in the order of folders and names, two of them whole, and a note.
     rides = folder / "rides"
     rides.mkdir()
-    for name, lines in (("a", tour(600)), ("b", RIDE), ("c", tour(900))):
+    for name, lines in (("a", tour(600)), ("b", RIDE), ("c", by_device(8, tour(900))), ("whole2", by_device(8, RIDE)), ("whole10", by_device(9, RIDE))):
         run(fitrec, "save", recorded(fitrec, rides / name, lines), folder / (name + ".fit"))
         (rides / name).with_suffix(".script").unlink()
-    for name in ("whole10.fit", "whole2.fit"):
-        shutil.copy(folder / "b.fit", rides / name)
+    for name in ("whole10", "whole2"):
+        shutil.rmtree(rides / name)
+        shutil.copy(folder / (name + ".fit"), rides)
     (rides / "notes.txt").write_text("notes")
 
     def of_several(shown, made):

@@ -121,6 +121,14 @@ def of_values(fitrec, folder, browser):
     visit("an altitude that leaps", ride(samples, [(0, 599, None)]), {"Altitude": line([it for _, it in right], over_time(right), "m")}, [one],
           {"Ascent": "12 m"})
 
+    # So does a heart rate in which a bit has changed. In an hour of samples ten minutes apart it may be so.
+    beat = lambda at: 130 + at % 20 // 2
+    samples = [(at, {HEART: beat(at) | 64 if at == 300 else beat(at)}) for at in range(600)]
+    right = series([it for it in samples if it[0] != 300], HEART)
+    visit("a heart rate that leaps", ride(samples, [(0, 599, None)]), {"Heart rate": line([it for _, it in right], over_time(right), "bpm")}, [one])
+    samples = [(600 * at, {HEART: 200 if at == 3 else 110}) for at in range(7)]
+    visit("a heart rate of a sprint", ride(samples, [(0, 3600, None)]), {"Heart rate": line([110, 200], over_time(series(samples, HEART)), "bpm")})
+
     # Seconds in which nobody pedals count once, and once they do not.
     samples = [(at, {CADENCE: 90 if at % 300 < 200 else 0, POWER: 200}) for at in range(1200)]
     turns = series(samples, CADENCE)

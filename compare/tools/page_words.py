@@ -80,9 +80,9 @@ def inputs(fitrec, folder):
     yield "a clock of 1989, cut off", one(old[:-2000]), "Most of your activity is rescued", "The file was cut off."
     yield "totals behind a large hole", one(framed(begin + samples[:1000] + bytes(70000) + message(18, session))), "Part of your activity is rescued", GAP
     wrong = bytes(it ^ (1 << pick.randrange(8)) if pick.random() < 1 / 4000 else it for it in whole)
-    yield "bits that changed", one(wrong), MOSTLY, GAP
+    yield "bits that changed", one(wrong), RESCUED, "A few seconds of it are missing in"
     yield "a part of another ride", one(whole[:20480] + later[8192:16384] + whole[28672:]), MOSTLY, GAP
-    yield "the end of another ride", one(whole[:40960] + later[4096:20480]), MOSTLY, "What comes from December 18, 2024"
+    yield "the end of another ride", one(whole[:40960] + later[4096:20480]), MOSTLY, "What follows after 8:36:03 AM begins days later"
     yield "zeros after the end", one(whole + bytes(8192)), RESCUED, THERE
     # Its own beginning once more: nothing of it is added. What is of another ride can be read, and may be added.
     yield "its beginning after the end", one(whole + whole[14:3000]), RESCUED, "What follows after its end is of another activity or cannot be read"

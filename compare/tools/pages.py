@@ -39,6 +39,11 @@ def both(folder):
     return [folder / name for name in NAMES]
 
 
+def by_device(serial, lines):
+    """The same ride by a device of another number."""
+    return [lines[0].replace(" 7 ", " %d " % serial), *lines[1:]]
+
+
 # A wrong value of power.
 WRONG = 65534
 
@@ -58,10 +63,12 @@ def tour(seconds=3000, begin=START, longitude=8.5):
         if i == 3 * seconds // 4:
             at += 240
         speed = 7000 + int(2000 * math.sin(i / 200)) + i * 7919 % 400
+        # At the gap it is slow: no clock was set there.
+        speed = 1000 if abs(i - 3 * seconds // 4) < 2 else speed
         distance += speed // 10
         place = (47 + i / 20000) * SEMICIRCLE, ((longitude + (i / 1000) ** 2 / 100 + 180) % 360 - 180) * SEMICIRCLE
         watts = WRONG if i == seconds // 2 else 180 + i * 104729 % 120
-        heart = 201 if i == 2 * seconds // 5 else 120 + int(20 * math.sin(i / 150)) + i % 3
+        heart = 148 if i == 2 * seconds // 5 else 120 + int(20 * math.sin(i / 150)) + i % 3
         lines.append("sample %d lat=%d long=%d alt=%d hr=%d cad=%d dist=%d speed=%d power=%d temp=%d" % (
             at, *place, 2700 + 100 * math.sin(i / 300) + i % 2, heart, 80 + i % 9, distance, speed, watts, 12 + i // 1000))
         at += 1
