@@ -321,7 +321,8 @@ uint8_t fitrec_first_time(const uint8_t *bytes, size_t size, uint32_t *time, uin
 
 /* Writes one activity of several files, such as the halves of a ride whose device stopped and began a new file: their messages, one file
    after another, without the sessions, activity messages and laps that only sum up one of them. Distances go on from file to file, laps are
-   numbered in turn, and between two files the timer stands. What the whole activity then lacks, fitrec_finish adds.
+   numbered in turn, and between two files the timer stands. Where only sessions and laps state the sport, a sport message does at the end.
+   What the whole activity then lacks, fitrec_finish adds.
 
    bytes, size   the parts, one after another: each is the plain form of a file, as fitrec_plain writes it, and they are in the order of
                  their first times

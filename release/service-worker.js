@@ -1,5 +1,5 @@
 // Keeps the page where it is served, so that it opens without a connection. A new version of the page is a new name.
-const NAME = 'fitrec-e54ad79dea1962d2', FILES = ['fitrec.html', 'manifest.webmanifest', 'icon.svg'];
+const NAME = 'fitrec-fa4be5d0ac2d3312', FILES = ['fitrec.html', 'manifest.webmanifest', 'icon.svg'];
 
 addEventListener('install', event => {
   event.waitUntil(caches.open(NAME).then(cache => cache.addAll(FILES)).then(() => skipWaiting()));
